@@ -20,8 +20,8 @@
 # make dist: an archive of what is installed, with a script that installs it on hosts without the kit
 # make deb: a package for Debian
 # make behaviours: each wrong behaviour of tftp and tftpd that a test has to notice, five of which the gate tries
-# make soak SECONDS=3600 SEED=2: trials of bin/tftp and bin/tftpd against a model, a bad network and a bad host, and
-#   bin/tftp-show beside two other readers; then five minutes of inputs for the library for C, from a corpus
+# make soak SECONDS=3600 SEED=2: trials of bin/tftp and bin/tftpd against a model, a bad network and a bad host, and of
+#   bin/tftp-show beside two other readers
 # make coverage: which functions of the programs no test runs
 # make mutated-inputs COUNT=100000 SEED=2: mutated lines, captures, scripts and command lines for the programs of bin/, as many of each
 # make bench: the benchmarks of bench/, which are no tests
@@ -73,20 +73,16 @@ $(LIBRARY): $(SOURCES) tools/build.py tools/library.sh ports/heap.c ports/malloc
 	@tools/build.py tftp_c
 	@tools/library.sh bin
 else
-PORTED := tools/modules.py tools/port.sh tools/library.sh ports/os.c ports/heap.c ports/malloc.c
+PORTED := tools/modules.py tools/library.sh ports/os.c ports/heap.c ports/malloc.c
 export STATIC
 
 $(PROGRAMS) &: $(SOURCES) $(PORTED)
 	$(NEEDS_RT)
-	@tools/port.sh check $(ARCH)
-	@tools/modules.py $(ARCH) tftp-show tftp-play tftp tftpd
-	@tools/port.sh programs $(ARCH) $(BIN)
+	@tools/modules.py $(ARCH) link programs $(BIN)
 
 $(LIBRARY): $(SOURCES) $(PORTED)
 	$(NEEDS_RT)
-	@tools/port.sh check $(ARCH)
-	@tools/modules.py $(ARCH) libtftp
-	@tools/port.sh libtftp $(ARCH) $(BIN)
+	@tools/modules.py $(ARCH) link libtftp $(BIN)
 endif
 
 tftp-show tftp-play tftp tftpd:
@@ -103,11 +99,9 @@ sample:
 	bin/tftp-play examples/lossy.script
 	examples/loopback.sh bin/tftpd bin/tftp
 
-$(BARE): $(SOURCES) tools/modules.py tools/port.sh ports/heap.c
+$(BARE): $(SOURCES) tools/modules.py ports/heap.c
 	$(NEEDS_RT)
-	@tools/port.sh check $(ARCH)
-	@tools/modules.py $(ARCH) libtftp-bare
-	@tools/port.sh bare $(ARCH) $(BIN)
+	@tools/modules.py $(ARCH) link bare $(BIN)
 
 bare: $(BARE)
 
@@ -126,7 +120,7 @@ manifest:
 	@tools/manifest.py --write
 
 docs:
-	docs/made/made.py --write
+	docs/made/made.py
 
 wrong-bodies:
 	@tools/wrong_bodies.py $(if $(STALE),--stale) $(CRATES)
@@ -136,13 +130,13 @@ install uninstall:
 		'MANDIR=$(MANDIR)' 'UNITDIR=$(UNITDIR)' 'LIBDIR=$(LIBDIR)'
 
 dist: $(PROGRAMS) $(LIBRARY) assembly
-	@tools/install.sh dist '$(VERSION)'
+	@tools/archive.sh dist '$(VERSION)'
 
 # what is kept of the same text is not proved again
 assembly:
 	$(NEEDS_RT)
 	@for arch in amd64 arm64; do tools/modules.py $$arch || exit; done
-	@tools/assembly.sh '$(VERSION)'
+	@tools/archive.sh assembly '$(VERSION)'
 
 deb: $(PROGRAMS) $(LIBRARY)
 	@BIN='$(BIN)' debian/pack.sh '$(VERSION)' '$(ARCH)'
@@ -151,10 +145,8 @@ SECONDS := 60
 COUNT := 1000
 SEED := 1
 
-soak: bin/tftp bin/tftpd bin/tftp-show $(LIBRARY)
+soak: bin/tftp bin/tftpd bin/tftp-show
 	SOAK_SECONDS=$(SECONDS) SOAK_SEED=$(SEED) pytest-3 -v -n 6 tests/soak
-	tools/by_hand/second_reader.py 100000 $(SEED)
-	tools/by_hand/fuzz.py 300 $(SEED)
 
 behaviours: bin/tftp bin/tftpd
 	TRY_ALL=1 pytest-3 -q -n 3 tests/behaviours

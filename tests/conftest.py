@@ -1,8 +1,7 @@
 """What the tests share: a scene for each, and a second run of a test that failed while this host stalled.
 
-A test that takes `scene` has a folder and an address of its own. Where a module sets `OVER_SEVERAL`, each of its
-tests runs over two servers at one port, too, unless it is marked as `one_server`. TESTS_ONCE in the environment
-forbids second runs, as where a fault is to be noticed. """
+A test that takes `scene` has a folder and an address of its own. TESTS_ONCE in the environment forbids second runs, as
+where a fault is to be noticed."""
 import os
 import signal
 import time
@@ -35,29 +34,16 @@ def pytest_configure() -> None:
         signal.signal(number, signal.SIG_DFL)
 
 
-def pytest_generate_tests(metafunc: pytest.Metafunc) -> None:
-    is_alone = metafunc.definition.get_closest_marker("one_server")
-    if "scene" in metafunc.fixturenames and getattr(metafunc.module, "OVER_SEVERAL", False) and not is_alone:
-        metafunc.parametrize("scene", [1, 2], ids=["one", "two"], indirect=True)
-
-
-def pytest_collection_modifyitems(items: list[pytest.Item]) -> None:
-    for number, item in enumerate(items):
-        item.user_properties.append(("number", number))
-
-
-def address_of(number: int) -> str:
-    """The address of a test: in the network of this run, or in those behind it."""
-    first, second, third = map(int, NETWORK.split("."))
-    return f"{first}.{second}.{(third + number // IN_ONE_NETWORK) % 256}.{number % IN_ONE_NETWORK + 1}"
-
-
 @pytest.fixture
 def scene(request: pytest.FixtureRequest, tmp_path: Path) -> Iterator[Scene]:
-    number = dict(request.node.user_properties)["number"]
-    address = f"{NETWORK}.{201 + number % 50}" if request.node.nodeid in REPEATED else address_of(number)
+    """(Its address is in the network of this run, or in those behind it.)"""
+    number = request.session.items.index(request.node)
+    first, second, third = map(int, NETWORK.split("."))
+    address = f"{first}.{second}.{(third + number // IN_ONE_NETWORK) % 256}.{number % IN_ONE_NETWORK + 1}"
+    if request.node.nodeid in REPEATED:
+        address = f"{NETWORK}.{201 + number % 50}"
     paths = {name: str(path) for name in NAMES if (path := found(name))}
-    with Scene(paths, tmp_path / "scene", address, getattr(request, "param", 1)) as made:
+    with Scene(paths, tmp_path / "scene", address) as made:
         yield made
 
 
@@ -67,13 +53,12 @@ def pytest_runtest_protocol(item: Any, nextitem: Any) -> bool:
     begun, hook = time.monotonic(), item.ihook
     hook.pytest_runtest_logstart(nodeid=item.nodeid, location=item.location)
     reports = runtestprotocol(item, log=False, nextitem=nextitem)
-    stall = STALLS.longest_since(begun)
-    may_repeat = stall > LIMIT and len(REPEATED) < MOST_REPEATED and "TESTS_ONCE" not in os.environ
-    if may_repeat and any(report.failed for report in reports):
+    stall, failed = STALLS.longest_since(begun), [report for report in reports if report.failed]
+    if failed and stall > LIMIT and len(REPEATED) < MOST_REPEATED and "TESTS_ONCE" not in os.environ:
         REPEATED.append(item.nodeid)
         item._initrequest()
-        why = next(report.longreprtext.splitlines()[-1] for report in reports if report.failed)
         reports = runtestprotocol(item, log=False, nextitem=nextitem)
+        why = failed[0].longreprtext.splitlines()[-1]
         said = f"{item.nodeid}: once more, since the host stalled for {stall:.1f} s: {why}"
         reports[-1].sections.append(("once more", said))
     for report in reports:

@@ -13,51 +13,28 @@ import sys
 import time
 from concurrent.futures import FIRST_COMPLETED, Future, ThreadPoolExecutor, wait
 from graphlib import TopologicalSorter
-from pathlib import Path
 
-from lib.kit import below, listed
+from lib.kit import below, listed, repository_of
 from lib.programs import TOP
 
 # for every processor of x86-64, since small and emulated machines run them; the others are for x86-64-v2, the default
 PLAIN = ("tftp_main", "tftpd_main", "tftp_c")
-PARTS = ("src", "specs", "proofs")
 AT_ONCE = 4
 
 
-def words_of(name: str) -> list[str]:
-    """What proves and builds a crate. A program runs once it is built: it only prints its help."""
-    plain = ["--cpu=x86-64"] * (name in PLAIN)
-    if (TOP / "crates" / name / "src/main.rt").is_file():
-        return ["rt", "run", *plain, "--", "--help"]
-    # (rt gives a second and a fourth processor to large crates alone)
-    return ["rt", "lib", *plain, "--jobs", str(os.cpu_count())]
-
-
-def linked(name: str, part: str, room: Path) -> None:
-    """A part of a crate as hard links, where there is one."""
-    if (TOP / "crates" / name / part).is_dir():
-        shutil.copytree(TOP / "crates" / name / part, room / "crates" / name / part, copy_function=os.link, symlinks=True)
-
-
 def build(name: str) -> str:
-    """Proves and builds a crate, and returns what is said of it: rt lets in one run at a time to a crate and those
-    below it, so this run has a repository of hard links of its own."""
-    room, log, began = TOP / f"out/{name}.room", TOP / f"out/{name}.log", time.monotonic()
-    shutil.rmtree(room, ignore_errors=True)
-    for each in below(name):
-        for part in (*PARTS, "out/rlib"):
-            linked(each, part, room)
-    for part in (*PARTS, "out"):
-        linked(name, part, room)
-    lines = (TOP / "crates.txt").read_text().splitlines(True)
-    own = [line for line in lines if re.split(r"[ :]", line)[0] in {name, *below(name)}]
-    (room / "crates.txt").write_text("".join(own))
-    shutil.copy2(TOP / "HANDLES", room)
-    done = subprocess.run(words_of(name), cwd=room / "crates" / name, stdin=subprocess.DEVNULL, stdout=subprocess.PIPE,
+    """Proves and builds a crate, in a repository of its own, and returns what is said of it."""
+    room, log = (TOP / f"out/{name}.{kind}" for kind in ("room", "log"))
+    folder, out, began = repository_of(name, room), TOP / f"crates/{name}/out", time.monotonic()
+    # (a program runs once it is built: it only prints its help; and rt gives a second and a fourth processor to large
+    # crates alone)
+    is_program, plain = (folder / "src/main.rt").is_file(), ["--cpu=x86-64"] * (name in PLAIN)
+    words = ["run", *plain, "--", "--help"] if is_program else ["lib", *plain, "--jobs", str(os.cpu_count())]
+    done = subprocess.run(["rt", *words], cwd=folder, stdin=subprocess.DEVNULL, stdout=subprocess.PIPE,
                           stderr=subprocess.STDOUT, text=True, errors="replace")
-    shutil.rmtree(TOP / "crates" / name / "out", ignore_errors=True)
-    if (room / "crates" / name / "out").is_dir():
-        (room / "crates" / name / "out").rename(TOP / "crates" / name / "out")
+    shutil.rmtree(out, ignore_errors=True)
+    if (folder / "out").is_dir():
+        (folder / "out").rename(out)
     shutil.rmtree(room)
     # (rt says little of a crate that it finds proved: the log of the proof stays)
     functions = re.findall(r"(?m)^logic=proved functions=(\d+)", done.stdout)
@@ -69,8 +46,8 @@ def build(name: str) -> str:
 
 
 def main() -> None:
-    names, known, began, done = sys.argv[1:], listed(), time.monotonic(), 0
-    if not names or not {*names} <= {*known}:
+    names, began, done = sys.argv[1:], time.monotonic(), 0
+    if not names or not {*names} <= {*listed()}:
         sys.exit(__doc__)
     (TOP / "out").mkdir(exist_ok=True)
     wanted = {name: below(name) for top in names for name in (top, *below(top))}

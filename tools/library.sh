@@ -4,13 +4,11 @@
 # `cc` if none is named; without one there is no library for C, and a line says so.
 set -eu
 cd "$(dirname "$0")/.."
-folder=${1:?usage: library.sh FOLDER [ARCHIVE]}
-built=${2:-crates/tftp_c/out/libtftp_c.a}
+folder=${1:?usage: library.sh FOLDER [ARCHIVE]} built=${2:-crates/tftp_c/out/libtftp_c.a} cc=${CC:-cc}
 test -f "$built" || {
     echo "library.sh: there is no $built: make libtftp builds it" >&2
     exit 2
 }
-cc=${CC:-cc}
 command -v "${cc%% *}" > /dev/null || {
     echo "library.sh: no $cc: no library for C" >&2
     exit 0
@@ -20,29 +18,24 @@ mkdir -p "$folder"
 room=$(mktemp -d)
 trap 'rm -rf "$room"' EXIT
 trap 'exit 130' HUP INT TERM
-archive=$(realpath "$built")
-(cd "$room" && "$ar" x "$archive")
-# each in an object of its own: a program with a heap of its own is linked without malloc.o
-for source in heap malloc; do
-    $cc -O2 -fPIC -fno-stack-protector -I include -c "ports/$source.c" -o "$room/$source.o"
-done
-# the names by which the library asks for its heap are its own, and none of the archive's: one object has both
+mkdir "$room/joined"
+built=$(realpath "$built")
+# a program with a heap of its own is linked without malloc.o
+$cc -O2 -fPIC -fno-stack-protector -I include -c ports/heap.c -o "$room/joined/heap.o"
+$cc -O2 -fPIC -fno-stack-protector -I include -c ports/malloc.c -o "$room/malloc.o"
 (
     cd "$room"
-    mv malloc.o malloc
-    "$ld" -r -o joined ./*.o
-    rm ./*.o
-    "$objcopy" --wildcard --localize-symbol='rattle_*' joined libtftp.o
-    rm joined
-    mv malloc malloc.o
+    (cd joined && "$ar" x "$built")
+    # the names by which the library asks for its heap are its own, and none of the archive's: one object has both
+    "$ld" -r -o libtftp.o joined/*.o
+    "$objcopy" --wildcard --localize-symbol='rattle_*' libtftp.o
+    # the same bytes from the same objects
+    "$ar" rcsD libtftp.a libtftp.o malloc.o
 )
-rm -f "$folder/libtftp.a"
-# the same bytes from the same objects
-(cd "$room" && "$ar" rcsD libtftp.a ./*.o) && mv "$room/libtftp.a" "$folder/libtftp.a"
 # only the calls of tftp.h are seen from outside
 $cc -shared -Wl,-soname,libtftp.so.1 -Wl,--version-script=packaging/libtftp.map -Wl,--gc-sections -Wl,-z,defs \
-    -Wl,-z,relro,-z,now,-z,noexecstack -o "$room/libtftp.so.1" "$room"/*.o
+    -Wl,-z,relro,-z,now,-z,noexecstack -o "$room/libtftp.so.1" "$room/libtftp.o" "$room/malloc.o"
 # a program of the system only maps it
 chmod 644 "$room/libtftp.so.1"
-mv "$room/libtftp.so.1" "$folder/libtftp.so.1"
+mv "$room/libtftp.a" "$room/libtftp.so.1" "$folder"
 ln -sf libtftp.so.1 "$folder/libtftp.so"

@@ -8,28 +8,25 @@ line of a diff that a reviewer reads. The gate fails where the file is not as th
 there are any.
 """
 import re
-import subprocess
 import sys
 from collections import Counter
 from pathlib import Path
 from typing import Iterable, Sequence
 
-TOP = Path(__file__).resolve().parent.parent
-sys.path[:0] = [str(TOP / "tools")]
-
 import wrong_bodies
 from lib import surface
 from lib.checks import CHECKS
 from lib.kit import listed
+from lib.programs import TOP, ran
 
 MANIFEST = TOP / "tools/manifest.txt"
 # the order of the kinds of lines, each with the words of its name
 KINDS = ["handles", "crate", "check", "row", "test", "body", "function", "clause", "type", "ghost", "definition"]
-PATIENCE = 300
 # What runs the tests of tests/, by the words of .ci/packages, and where it is
 PACKAGES = "/usr/lib/python3/dist-packages"
 RUNNER = {"pytest-3": "/usr/bin/pytest-3", "python3-pytest-xdist": f"{PACKAGES}/xdist/__init__.py",
-          "python3-pytest-timeout": f"{PACKAGES}/pytest_timeout.py", "python3-hypothesis": f"{PACKAGES}/hypothesis/__init__.py"}
+          "python3-pytest-timeout": f"{PACKAGES}/pytest_timeout.py",
+          "python3-hypothesis": f"{PACKAGES}/hypothesis/__init__.py"}
 
 
 def runner_lacks() -> list[str]:
@@ -42,35 +39,30 @@ def rows_of(checks: Iterable[str]) -> list[str]:
     committed."""
     if runner_lacks():
         return [line for line in committed() if line.startswith("row ")]
-    done = subprocess.run(["pytest-3", "--collect-only", "-q", *checks], cwd=TOP, stdin=subprocess.DEVNULL, capture_output=True,
-                          text=True, timeout=PATIENCE)
+    done = ran("pytest-3", "--collect-only", "-q", *checks)
     if done.returncode:
         sys.exit(f"manifest: the tests are not collected: {done.stdout[-500:]}{done.stderr[-500:]}")
     return [f"row tests/{line.replace('/', ': ', 1)}" for line in done.stdout.splitlines() if "::" in line]
 
 
-def tests_of(crate: str) -> list[str]:
-    """The tests in Rattle of a crate."""
-    texts = [path.read_text() for path in sorted((TOP / "crates" / crate).glob("src/**/*.rt"))]
-    return [f"test {crate}/{name}" for text in texts for name in re.findall(r"#\[test\][^{]*?fn (\w+)", text)]
-
-
-def bodies_of(crate: str) -> list[str]:
-    """The wrong bodies of a crate, with a mark on those that each gate tries."""
-    marks = {wrong_bodies.GATE: " gate", wrong_bodies.OTHERS: ""}
-    return [f"body {crate}/{path.stem} {surface.digest_of(path.read_text())}{mark}" for folder, mark in marks.items()
-            for path in (TOP / "crates" / crate / folder).glob("*.edit")]
+def of_crate(name: str) -> list[str]:
+    """The tests in Rattle of a crate, its wrong bodies, with a mark on those that each gate tries, and its public
+    items."""
+    folder, marks = TOP / "crates" / name, {wrong_bodies.GATE: " gate", wrong_bodies.OTHERS: ""}
+    return [*(f"test {name}/{test}" for path in folder.glob("src/**/*.rt")
+              for test in re.findall(r"#\[test\][^{]*?fn (\w+)", path.read_text())),
+            *(f"body {name}/{path.stem} {surface.digest_of(path.read_text())}{mark}" for kind, mark in marks.items()
+              for path in folder.glob(f"{kind}/*.edit")),
+            *surface.of_crate(name, folder)]
 
 
 def made(checks: Iterable[str]) -> list[str]:
     """All lines: by their kinds, and in each by name; rows in the order of their checks."""
-    handles, known = TOP / "HANDLES", listed() if (TOP / "crates.txt").is_file() else {}
-    lines = [f"handles {surface.digest_of(handles.read_text() if handles.is_file() else '')}",
-             *(f"crate {name}: {' '.join(uses)}".rstrip() for name, uses in known.items()),
-             *(f"check {check}" for check in checks), *rows_of(checks)]
     # (crates on the disk that crates.txt does not have are of no gate)
-    lines += sorted(line for crate in known for line in
-                    [*tests_of(crate), *bodies_of(crate), *map(str, surface.of_crate(crate, TOP / "crates" / crate))])
+    lines = [f"handles {surface.digest_of((TOP / 'HANDLES').read_text())}",
+             *(f"crate {name}: {' '.join(uses)}".rstrip() for name, uses in listed().items()),
+             *(f"check {check}" for check in checks), *rows_of(checks),
+             *sorted(line for crate in listed() for line in of_crate(crate))]
     return sorted(lines, key=lambda line: KINDS.index(line.split()[0]))
 
 
@@ -90,19 +82,14 @@ def counts(lines: Sequence[str]) -> "Counter[str]":
 
 
 def main() -> int:
-    if sys.argv[1:] not in ([], ["--write"]):
-        sys.exit(__doc__)
-    now = made(CHECKS)
+    now, before = made(CHECKS), committed()
     if twice := [line for line, count in Counter(now).items() if count > 1]:
         sys.exit(f"manifest: stands twice: {twice[:5]}")
-    if sys.argv[1:] == ["--write"]:
+    if "--write" in sys.argv:
         MANIFEST.write_text("".join(f"{line}\n" for line in now))
-        print(f"{MANIFEST.relative_to(TOP)}: {len(now)} lines")
-        return 0
-    found = differences(committed(), now)
-    print(*found[:60], sep="\n", end="\n" if found else "")
-    print(f"manifest: {len(now)} lines, {len(found)} differ{'; make manifest writes them' if found else ''}")
-    return 1 if found else 0
+    found = differences(before, now)
+    print(*found[:60], f"manifest: {len(now)} lines, {len(found)} differ; make manifest writes them", sep="\n")
+    return int(bool(found) and "--write" not in sys.argv)
 
 
 if __name__ == "__main__":

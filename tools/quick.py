@@ -9,25 +9,21 @@ gate.
 import subprocess
 import sys
 import time
-from typing import Iterator
 
 from lib.kit import listed
 from lib.programs import TOP
 
 # the tests of programs as processes that try a crate, below tests/
-LOOP = "tftpd/test_server_loop.py tftpd/test_server_alone.py"
-DISK = "tftpd/test_served_folder.py tftpd/test_served_disk.py tftp"
+LOOP, FOLDER = "tftpd/test_server_alone.py", "tftpd/test_served_folder.py"
+DISK, SEVERAL = f"{FOLDER} tftpd/test_served_disk.py tftp", "tftpd/test_several_servers.py tftpd/test_draining.py"
 PROCESSES = {
-    "tftp_loop": f"{LOOP} tftpd/test_in_quantity.py", "tftp_server": f"{LOOP} tftpd/test_in_quantity.py",
-    "tftp_store": f"{LOOP} tftpd/test_in_quantity.py", "tftp_sockets": f"{LOOP} tftp", "tftp_lines": f"{LOOP} tftp",
+    **dict.fromkeys(["tftp_loop", "tftp_server", "tftp_store"], f"{LOOP} tftpd/test_in_quantity.py"),
+    **dict.fromkeys(["tftp_sockets", "tftp_lines"], f"{LOOP} tftp"),
+    **dict.fromkeys(["tftp_folder", "tftp_disk"], DISK),
+    **dict.fromkeys(["tftp_supervisor", "tftp_service"], SEVERAL),
     "tftp_client": "tftp tftpd/test_both_programs.py", "tftp_status": "tftpd/test_status.py",
-    "tftp_folder": DISK, "tftp_disk": DISK,
-    "tftp_daemon": "tftpd/test_options.py tftpd/test_command_lines.py tftpd/test_server_alone.py tftpd/test_served_folder.py",
-    "tftp_supervisor": "tftpd/test_several_servers.py tftpd/test_handed_over.py tftpd/test_draining.py",
-    "tftp_service": "tftpd/test_several_servers.py tftpd/test_handed_over.py tftpd/test_draining.py",
+    "tftp_daemon": f"{LOOP} {FOLDER} tftpd/test_options.py tftpd/test_command_lines.py",
 }
-# the longest time of a test in Rattle, in seconds: some make thousands of random events
-SECONDS = "300"
 FAILED = list[str]()
 
 
@@ -40,11 +36,6 @@ def step(command: str, crate: str = "", is_needed: bool = True) -> None:
     print(f"   {time.monotonic() - began:.0f} s", flush=True)
 
 
-def layer_of(crate: str) -> Iterator[str]:
-    """The first crate of tests that uses it: those of a layer are in the lowest."""
-    return (each for each in ("tests_parts", "tests_programs") if crate == each or crate in listed()[each])
-
-
 def try_crate(crate: str) -> None:
     step("rt fmt", crate)
     step(f"git --no-pager diff --stat -- crates/{crate}")
@@ -53,11 +44,11 @@ def try_crate(crate: str) -> None:
     step("tools/manifest.py", is_needed=False)
     step("pytest-3 -q tests/documents/test_made.py -k STATEMENT")
     step("rt check", crate)
-    for layer in [*layer_of(crate)][:1]:
-        step(f"rt try --test --seconds {SECONDS}", layer)
+    # (the first crate of tests that uses it is that of its layer; some tests make thousands of random events)
+    for layer in [it for it in ("tests_parts", "tests_programs") if crate in [it, *listed()[it]]][:1]:
+        step("rt try --test --seconds 300", layer)
     if crate in PROCESSES and not FAILED:
-        step("make --no-print-directory tftp")
-        step("make --no-print-directory tftpd")
+        step("make --no-print-directory tftp tftpd")
         if not FAILED:
             step("pytest-3 -q -n 8 " + " ".join(f"tests/{path}" for path in PROCESSES[crate].split()))
 
@@ -65,18 +56,16 @@ def try_crate(crate: str) -> None:
 def main() -> int:
     began, crate = time.monotonic(), "".join(sys.argv[1:])
     if crate and crate not in listed():
-        print("quick: make quick CRATE=NAME, a crate of crates.txt; or make quick, for a tool", file=sys.stderr)
-        return 2
+        sys.exit("quick: make quick CRATE=NAME, a crate of crates.txt; or make quick, for a tool")
     if crate:
         try_crate(crate)
     else:
         step("tools/manifest.py", is_needed=False)
         step("pytest-3 -q tests/documents/test_lint.py")
         step("pytest-3 -q -n 4 tests/gate")
-    minutes, seconds = divmod(int(time.monotonic() - began), 60)
     failed = f", failed: {'; '.join(FAILED)}" if FAILED else ""
-    print(f"quick: {crate or 'tools'}, in {minutes} min {seconds} s{failed}. The gate is make test")
-    return 1 if FAILED else 0
+    print(f"quick: {crate or 'tools'}, in {time.monotonic() - began:.0f} s{failed}. The gate is make test")
+    return int(bool(FAILED))
 
 
 if __name__ == "__main__":

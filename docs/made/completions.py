@@ -6,8 +6,8 @@ from typing import Iterable
 from lib.named_options import VERBS, Entry, of_section
 
 # what zsh does not offer beside each other
-APART = [{"--read-only", "--overwrite"}, {"--read-only", "--uploads"}, {"--forever", "--transfers"}, {"--forever", "--rounds"},
-         {"--servers", "--server"}]
+APART = [{"--read-only", "--overwrite"}, {"--read-only", "--uploads"}, {"--forever", "--transfers"},
+         {"--forever", "--rounds"}, {"--servers", "--server"}]
 MADE = "made by `make docs` of the help that the program prints"
 # what is offered, as each shell says it
 KINDS = {"FILE": "files", "LOCAL": "files", "SCRIPT": "files", "ROOT": "folders"}
@@ -86,8 +86,8 @@ def of_bash(name: str) -> str:
         cases.append(f"{verb}*,-*) how=(-W '{' '.join(words)}') ;;")
     cases += cases_of((offered(it), f"{verb}{place}") for verb, place, it in section(name, "Arguments"))
     cases += cases_of([(verbs, "0")])
-    valued = dict.fromkeys(each for _, _, it in options if it.value for each in it.names)
-    return FUNCTION.format(name=name, made=MADE, function=name.replace("-", "_"), valued=" | ".join(valued), verbs=verbs,
+    valued = " | ".join(dict.fromkeys(each for _, _, it in options if it.value for each in it.names))
+    return FUNCTION.format(name=name, made=MADE, function=name.replace("-", "_"), valued=valued, verbs=verbs,
                            cases="\n    ".join(cases))
 
 
@@ -130,8 +130,9 @@ def of_zsh(name: str) -> str:
             found.append(f"'1:command:(({pairs}))'")
         return "".join(f" \\\n    {it}" for it in found) + "\n"
 
-    arms = [f"{verb})\n  shift words\n  (( CURRENT-- ))\n  _arguments{specs(verb)}  ;;\n" for verb in VERBS[name] if verb]
-    text = f"case $words[2] in\n{''.join(arms)}*)\n  _arguments{specs('')}  ;;\nesac\n" if arms else f"_arguments{specs('')}"
+    text, arms = f"_arguments{specs('')}", "".join(
+        f"{verb})\n  shift words\n  (( CURRENT-- ))\n  _arguments{specs(verb)}  ;;\n" for verb in VERBS[name] if verb)
+    text = f"case $words[2] in\n{arms}*)\n  {text}  ;;\nesac\n" if arms else text
     return f"#compdef {name}\n# zsh completion of {name}, {MADE}\n\n{text}"
 
 

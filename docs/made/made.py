@@ -1,11 +1,9 @@
 #!/usr/bin/env python3
-"""What documents have that is made from the sources: made.py [--write]
+"""Writes what documents have that is made from the sources.
 
-Statement and pictures of docs/, numbers of lines in them, the completions, and the pictures of examples/ as tftp-play and
-tftp-show of bin/ draw them. --write writes all. Without it each is compared with what stands there, which
-tests/documents/test_made.py does in the gate, and the status is 1 where one differs.
+Statement and pictures of docs/, numbers of lines in them, the completions, and the pictures of examples/ as tftp-play
+and tftp-show of bin/ draw them. In the gate tests/documents/test_made.py compares each with what stands there.
 """
-import subprocess
 import sys
 from functools import partial
 from pathlib import Path
@@ -17,7 +15,7 @@ sys.path[:0] = [str(TOP / "docs/made"), str(TOP / "tools")]
 import completions
 import figures
 import statement
-from lib.programs import NAMES, program
+from lib.programs import NAMES, program, ran
 
 # the words that draw each picture of examples/, and its input
 DRAWN = {"lossy.svg": ("tftp-play", "lossy.script"), "race.svg": ("tftp-play", "race.script"),
@@ -28,12 +26,11 @@ def drawn(picture: str) -> str:
     """A picture of examples/."""
     name, given = DRAWN[picture]
     words = ["--flow"] * (name == "tftp-show") + ["--svg", "/dev/stderr"]
-    done = subprocess.run([program(name), *words], cwd=TOP / "examples", input=(TOP / "examples" / given).read_bytes(),
-                          capture_output=True, timeout=120)
+    done = ran(program(name), *words, cwd=TOP / "examples", input=(TOP / "examples" / given).read_text())
     # 1: not every client is complete, as in the race
     if done.returncode > 1:
         sys.exit(f"{picture}: {name} ends with {done.returncode}")
-    return done.stderr.decode()
+    return done.stderr
 
 
 # what is made, by its path, or by those of several
@@ -41,23 +38,9 @@ MADE: dict[str, Callable[[], str]] = {
     "docs/STATEMENT.md": statement.document,
     **{f"completions/{name}.{shell}": partial(of, name) for shell, of in completions.SHELLS.items() for name in NAMES},
     **{f"examples/{picture}": partial(drawn, picture) for picture in DRAWN}}
-FIGURES = ["docs/crates.dot", "docs/crates.svg", "docs/datagram.svg", "docs/ratios.svg", "docs/PROVED.md", "README.md",
-           "docs/TESTING.md"]
-
-
-def main() -> int:
-    texts = {**{path: make() for path, make in MADE.items()}, **figures.texts()}
-    wrong = 0
-    for path, text in texts.items():
-        place = TOP / path
-        if "--write" in sys.argv[1:]:
-            place.write_text(text)
-        elif not place.is_file() or place.read_text() != text:
-            print(f"{path} differs: docs/made/made.py --write makes it")
-            wrong += 1
-    print(f"made: {len(texts)} texts and pictures, {wrong} differ")
-    return int(wrong > 0)
+FIGURES = ["docs/crates.dot", "docs/crates.svg", "docs/ratios.svg", "docs/PROVED.md", "README.md", "docs/TESTING.md"]
 
 
 if __name__ == "__main__":
-    sys.exit(main())
+    for path, text in {**{path: make() for path, make in MADE.items()}, **figures.texts()}.items():
+        (TOP / path).write_text(text)

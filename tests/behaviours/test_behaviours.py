@@ -27,11 +27,15 @@ PLAIN = {name: value for name, value in os.environ.items() if not name.startswit
 QUICK = {"TESTS_ONCE": "1", "TESTS_PATIENCE": "15", "ASAN_OPTIONS": "detect_leaks=0"}
 
 
+def ran(*words: str, **env: str) -> "subprocess.CompletedProcess[str]":
+    return subprocess.run(["pytest-3", "-q", "-n0", *words], cwd=TOP, stdin=subprocess.DEVNULL, capture_output=True,
+                          text=True, timeout=LIMIT, env={**PLAIN, **env})
+
+
 @lru_cache(None)
-def collected() -> list[str]:
-    words = ["pytest-3", "-q", "-n0", "--collect-only", "tests"]
-    done = subprocess.run(words, cwd=TOP, env=PLAIN, capture_output=True, text=True)
-    return [line for line in done.stdout.splitlines() if "::" in line]
+def collected() -> dict[str, str]:
+    """The names of all tests, by what names them for pytest."""
+    return {f"tests/{line}": line.partition("::")[2] for line in ran("--collect-only", "tests").stdout.splitlines()}
 
 
 def words_of(test: str) -> list[str]:
@@ -40,35 +44,26 @@ def words_of(test: str) -> list[str]:
     file, _, word = test.partition(" ")
     if file.endswith(".py"):
         return [f"tests/{file}", *(["-k", word] if word else [])]
-    names = {f"tests/{each}": each.partition("::")[2] for each in collected()}
-    found = [each for each, name in names.items() if name == test]
-    found = found or [each for each, name in names.items() if name.startswith(f"{test}[") and "[two" not in name]
+    found = [each for each, name in collected().items() if name == test]
+    found = found or [each for each, name in collected().items() if name.startswith(f"{test}[") and "[two" not in name]
     assert found, f"there is no test {test}"
     return found
 
 
-def with_behaviour(program: str, behaviour: str, room: Path) -> None:
-    """The programs in a folder, one of which has the behaviour; behind its library stands what a test preloads
-    itself."""
-    shim = compiled(room, TOP / "tests/shims/wrong_behaviours.c")
-    paths = programs(["tftp", "tftpd", "tftp-show"])
-    for name, path in paths.items():
-        if name != program:
-            (room / name).symlink_to(path)
-    preload = f'LD_PRELOAD="{shim}${{LD_PRELOAD:+:$LD_PRELOAD}}"'
-    (room / program).write_text(f'#!/bin/sh\n{preload} BEHAVIOUR={behaviour} exec {paths[program]} "$@"\n')
-    (room / program).chmod(0o755)
-
-
 @pytest.mark.parametrize("row", ROWS, ids=" ".join)
 def test_is_noticed(row: list[str], tmp_path: Path) -> None:
+    """The programs are in a folder, one of them with the behaviour; behind its library stands what a test preloads."""
     if row not in CHOSEN:
         pytest.skip(OTHERS)
     program, behaviour, test = row
     tmp_path.chmod(0o755)
-    with_behaviour(program, behaviour, tmp_path)
-    done = subprocess.run(["pytest-3", "-q", "-n0", *words_of(test)], cwd=TOP, stdin=subprocess.DEVNULL, capture_output=True,
-                          text=True, timeout=LIMIT, env={**PLAIN, **QUICK, "TFTP_PROGRAMS": str(tmp_path)})
+    shim, paths = compiled(tmp_path, TOP / "tests/shims/wrong_behaviours.c"), programs(["tftp", "tftpd", "tftp-show"])
+    for name in {*paths} - {program}:
+        (tmp_path / name).symlink_to(paths[name])
+    preload = f'LD_PRELOAD="{shim}${{LD_PRELOAD:+:$LD_PRELOAD}}"'
+    (tmp_path / program).write_text(f'#!/bin/sh\n{preload} BEHAVIOUR={behaviour} exec {paths[program]} "$@"\n')
+    (tmp_path / program).chmod(0o755)
+    done = ran(*words_of(test), **QUICK, TFTP_PROGRAMS=str(tmp_path))
     ended = done.stdout[-200:] + done.stderr[-200:]
     said = next((line for line in done.stdout.splitlines() if re.match(r"E  |\S+: ", line)), ended)
     assert done.returncode == 1, f"it is not noticed: {said[:160]}"

@@ -1,7 +1,6 @@
 """What `tftp-show` does with captures of each format, link and fault, which are built by hand (lib/frames.py); what
-is printed of them is written here. tshark reads them too, packet by packet; tcpdump records an exchange on the
-loopback interface, and transfers of `tftpd` with each client that is installed. Captures are mutated under a limit of
-memory and of time."""
+is printed of them is written here. tshark reads them too, packet by packet, and transfers of `tftpd` with each client
+that is installed, as tcpdump records them. Captures are mutated under a limit of memory and of time."""
 import json
 import os
 import random
@@ -9,8 +8,8 @@ import resource
 import signal
 import struct
 import subprocess
-import time
 from contextlib import contextmanager
+from functools import partial
 from pathlib import Path
 from typing import Any, Iterator
 
@@ -28,32 +27,24 @@ from lib.packets import ack, data, error, oack, rrq, wrq
 from lib.process import Program
 from lib.programs import TOP, program
 
-EXAMPLES = TOP / "examples"
-EXAMPLE_CAPTURES = ("wire", "netboot/uefi", "netboot/bios")
-PATIENCE = 60
-MEMORY = 200 << 20
-MUTATIONS = 400
-NO_UDP = "not UDP over IPv4: frames 1\n"
-
-HERE = Path(__file__).resolve().parent
+EXAMPLES, HERE = TOP / "examples", Path(__file__).resolve().parent
+PATIENCE, MEMORY, MUTATIONS = 60, 200 << 20, 400
 # what is printed of the exchange of lib/frames.py, and of a capture of other transfers
 REPORT, LINES = (HERE / "report.txt").read_text(), (HERE / "lines.txt").read_text()
+# and where another frame is before it
+LATER = REPORT.replace("frame 7", "frame 8")
 TRANSFERS = json.loads((HERE / "transfers.json").read_text())
 
 
-def limit() -> None:
-    """A program that takes more memory than this is out of memory."""
-    resource.setrlimit(resource.RLIMIT_AS, (MEMORY, MEMORY))
-
-
 def run(words: Any, given: bytes = b"") -> tuple[int, str, str]:
-    """Status, output and messages of a run."""
-    done = subprocess.run([program("tftp-show"), *words], input=given, capture_output=True, timeout=PATIENCE, preexec_fn=limit)
+    """Status, output and messages of a run, which is out of memory where it takes more than this."""
+    done = subprocess.run([program("tftp-show"), *words], input=given, capture_output=True, timeout=PATIENCE,
+                          preexec_fn=partial(resource.setrlimit, resource.RLIMIT_AS, (MEMORY, MEMORY)))
     return done.returncode, done.stdout.decode(errors="replace"), done.stderr.decode(errors="replace")
 
 
-def reads(name: str, capture: bytes, folder: Path, report: str = REPORT, lines: str = LINES, status: int = 0, errors: str = "",
-          words: Any = ()) -> None:
+def reads(name: str, capture: bytes, folder: Path, report: str = REPORT, lines: str = LINES, status: int = 0,
+          errors: str = "", words: Any = ()) -> None:
     """A capture is read so, from a file and from standard input, with and without `--flow`."""
     path = folder / "read.pcap"
     path.write_bytes(capture)
@@ -62,11 +53,11 @@ def reads(name: str, capture: bytes, folder: Path, report: str = REPORT, lines: 
     assert run([*words, path]) == (status, lines, errors), name
 
 
-def samples() -> Iterator[Any]:
+def samples() -> Iterator[tuple[str, bytes]]:
     """Captures of one exchange, each with what it is called, in each format and of each link."""
-    told = f.exchange()
-    for kind in (f.ETHERNET, f.COOKED, f.COOKED2, f.RAW, f.LOOPBACK, f.LOOP, 12, 14, 228):
-        for tags in [(), (0x8100,), (0x88A8, 0x8100)] if kind in (f.ETHERNET, f.COOKED, f.COOKED2) else [()]:
+    told, has_tags = f.exchange(), (f.ETHERNET, f.COOKED, f.COOKED2)
+    for kind in (*has_tags, f.RAW, f.LOOPBACK, f.LOOP, 12, 14, 228):
+        for tags in [(), *[(0x8100,), (0x88A8, 0x8100)] * (kind in has_tags)]:
             seen = f.frames(told, f.RAW if kind in (12, 14, 228) else kind, tags)
             for order in "<>":
                 for magic in (f.MICROS, f.NANOS):
@@ -75,82 +66,39 @@ def samples() -> Iterator[Any]:
     seen = f.frames(told, f.ETHERNET)
     yield "nanoseconds", f.pcapng(seen, 1, resolution=9, per_second=10**9)
     yield "no default option", f.pcapng(seen, 1, resolution=6)
-    names = f.block("<", 4, struct.pack("<HH", 0, 0))
-    statistics = f.block("<", 5, struct.pack("<III", 0, 0, 0) + bytes(64))
+    names, statistics = f.block("<", 4, bytes(4)), f.block("<", 5, bytes(76))
     yield "other blocks", f.pcapng(seen, 1, between=names + statistics)
-    own = f.block("<", 0xBAD, bytes(300_000))
-    yield "a long other block", f.pcapng(seen, 1, between=own)
-    half = len(seen) // 2
-    two = f.pcapng(seen[:half], 1) + f.pcapng(f.frames(told, f.RAW)[half:], f.RAW, order=">")
-    yield "two sections", two
+    yield "a long other block", f.pcapng(seen, 1, between=f.block("<", 0xBAD, bytes(300_000)))
+    yield "two sections", f.pcapng(seen[:5], 1) + f.pcapng(f.frames(told, f.RAW)[5:], f.RAW, order=">")
     yield "options of IPv4", f.classic(f.frames(told, f.ETHERNET, options=bytes([1] * 8)), 1)
-    padded = [(at, frame + bytes(max(0, 60 - len(frame)))) for at, frame in seen]
-    yield "padded frames", f.classic(padded, 1)
+    yield "padded frames", f.classic([(at, frame + bytes(max(0, 60 - len(frame)))) for at, frame in seen], 1)
     yield "a sum behind each frame", f.classic([(at, frame + b"sum!") for at, frame in seen], 0x34000001)
-
-
-def two_interfaces() -> bytes:
-    """An exchange whose directions are of two interfaces with other links and clocks."""
+    # the directions are of two interfaces with other links and clocks
     parts = [f.section("<"), f.interface("<", f.ETHERNET), f.interface("<", f.RAW, resolution=0x80 | 20)]
-    for at, packet in f.packets(f.exchange()):
-        if packet[12:16] == f.octets(f.CLIENT):
-            parts.append(f.enhanced("<", at, f.link(f.ETHERNET, packet)))
-        else:
-            parts.append(f.enhanced("<", -(-at * 2**20 // 1_000_000), packet, 1))
-    return b"".join(parts)
+    for at, packet in f.packets(told):
+        is_client = packet[12:16] == f.octets(f.CLIENT)
+        parts.append(f.enhanced("<", at, f.link(f.ETHERNET, packet)) if is_client
+                     else f.enhanced("<", -(-at * 2**20 // 1_000_000), packet, 1))
+    yield "two interfaces", b"".join(parts)
 
 
-def of_one(frame: bytes, kind: int = f.ETHERNET) -> bytes:
-    """A capture of one frame, and then an exchange."""
-    return f.classic([(1, frame)] + f.frames(f.exchange(), f.ETHERNET), kind)
-
-
-def later(report: str) -> str:
-    """The report where another frame is before it."""
-    return report.replace("frame 7", "frame 8")
-
-
-def frame_faults() -> dict[str, bytes]:
-    """Frames without a UDP datagram over IPv4."""
-    body = f.udp(1, 2, b"x")
-
-    def packet(part: bytes = body, **how: int) -> bytes:
-        return f.ipv4(f.CLIENT, f.SERVER, part, **how)  # type: ignore[arg-type]
-
-    packets = {
-        "short packet": packet()[:19], "version": packet(version=6), "header of 16": packet(words=4),
-        "total within header": packet(total=19), "header behind the frame": packet(b"", words=15, total=80),
-        "TCP": packet(bytes(20), kind=6), "short UDP": packet(body[:7]), "UDP of 7": packet(f.udp(1, 2, b"x", 7)),
-        "UDP past its packet": packet(f.udp(1, 2, b"x", 10)),
-    }
-    return {
-        "empty": b"", "short link": bytes(13), "no tag": bytes(12) + b"\x81\0\0",
-        "three tags": f.link(f.ETHERNET, packet(), tags=(0x8100,) * 3),
-        "ARP": f.link(f.ETHERNET, bytes(28), protocol=0x0806),
-        "IPv6": f.link(f.ETHERNET, b"\x60" + bytes(47), protocol=0x86DD),
-        **{name: f.link(f.ETHERNET, each) for name, each in packets.items()},
-    }
+SAMPLES = dict(samples())
 
 
 def test_formats(tmp_path: Path) -> None:
-    """Each format, link and fault."""
-    for name, capture in samples():
+    """Each format and link, and each count of what is no datagram: which frames have none is proved (tftp_capture)."""
+    for name, capture in SAMPLES.items():
         reads(name, capture, tmp_path)
-    reads("two interfaces", two_interfaces(), tmp_path)
-    for name, frame in frame_faults().items():
-        reads(name, of_one(frame), tmp_path, later(REPORT) + NO_UDP)
-    fragment = f.link(f.ETHERNET, f.ipv4(f.CLIENT, f.SERVER, bytes(100), offset=185))
-    reads("a later fragment", of_one(fragment), tmp_path, later(REPORT) + "later fragments: frames 1\n")
-    for kind, frame in [(f.LOOPBACK, struct.pack("<I", 30) + bytes(40)), (f.LOOPBACK, bytes(3)), (f.COOKED, bytes(15)),
-                        (f.COOKED2, bytes(19))]:
-        reads(f"link {kind}", f.classic([(1, frame)], kind), tmp_path, NO_UDP, "")
-    undescribed = f.section("<") + f.enhanced("<", 1, bytes(60), 3)
-    for name, capture in [("a link", f.classic([(1, bytes(40))], 127)), ("an interface that is not described", undescribed)]:
+    tcp, fragment = f.ipv4(f.CLIENT, f.SERVER, bytes(20), kind=6), f.ipv4(f.CLIENT, f.SERVER, bytes(100), offset=185)
+    for packet, said in [(tcp, "not UDP over IPv4"), (fragment, "later fragments")]:
+        capture = f.classic([(1, f.link(f.ETHERNET, packet)), *f.frames(f.exchange(), f.ETHERNET)], f.ETHERNET)
+        reads(said, capture, tmp_path, f"{LATER}{said}: frames 1\n")
+    for name, capture in [("a link", f.classic([(1, bytes(40))], 127)),
+                          ("an interface that is not described", f.section("<") + f.enhanced("<", 1, bytes(60), 3))]:
         reads(name, capture, tmp_path, "of another link type: frames 1\n", "")
-    plain = f.section("<") + f.interface("<", f.RAW)
-    plain += b"".join(f.simple("<", packet) for _, packet in f.packets(f.exchange()))
+    plain = [f.section("<"), f.interface("<", f.RAW), *(f.simple("<", packet) for _, packet in f.packets(f.exchange()))]
     timeless = REPORT.replace("1.004035", "0.000000").replace("1.001062", "0.000000")
-    reads("simple packet blocks", plain, tmp_path, timeless)
+    reads("simple packet blocks", b"".join(plain), tmp_path, timeless)
     reads("no frame", f.classic([], 1), tmp_path, "", "")
 
 
@@ -187,53 +135,52 @@ BLOCK_FAULTS: list[Any] = [
 def test_cuts(tmp_path: Path) -> None:
     """A capture that is cut at each byte, and records that no capture has."""
     told = f.frames(f.exchange(), f.RAW)
-    for capture, head, per_frame, whole in [(f.classic(told, f.RAW), [24], 16, 1), (f.pcapng(told, f.RAW), [28, 48], 28, 4)]:
-        # where a record ends, and where its frame does
-        ends, seen = list(head), []
-        for _, frame in told:
-            seen.append(ends[-1] + per_frame + len(frame))
-            padded = ends[-1] + per_frame + len(frame) + -len(frame) % whole
-            ends.append(padded + (4 if whole == 4 else 0))
+    for made, heads in [(f.classic, [24]), (f.pcapng, [28, 48])]:
+        capture: bytes = made(told, f.RAW)
+        # where a record ends, and where its frame does: a block of pcapng has its padding and its length behind it
+        ends = [len(made(told[:count], f.RAW)) for count in range(1, len(told) + 1)]
+        seen = [end - (4 + -len(frame) % 4) * (made is f.pcapng) for end, (_, frame) in zip(ends, told)]
         for cut in range(4, len(capture), 5):
             status, output, errors = run(["--flow"], capture[:cut])
-            count = sum(1 for end in seen if end <= cut)
-            wanted = (0, "") if cut in ends else (1, f"tftp-show: frame {count + 1}: cut short\n")
+            count = sum(end <= cut for end in seen)
+            wanted = (0, "") if cut in (*heads, *ends) else (1, f"tftp-show: frame {count + 1}: cut short\n")
             assert (status, errors) == wanted, f"cut at {cut} of {len(capture)}"
             assert count < len(told) or output == REPORT, f"cut at {cut}"
     long = f.classic(told, f.RAW) + struct.pack("<IIII", 0, 0, 262_145, 262_145)
     reads("a long record", long, tmp_path, status=1, errors="tftp-show: frame 11: a record is too long\n")
-    good = f.pcapng(told, f.RAW)
     for name, fault, *numbers in BLOCK_FAULTS:
-        more = struct.pack(f"<{len(numbers)}I", *numbers)
-        reads(name, good + more, tmp_path, status=1, errors=f"tftp-show: frame 11: {fault}\n")
+        bad = f.pcapng(told, f.RAW) + struct.pack(f"<{len(numbers)}I", *numbers)
+        reads(name, bad, tmp_path, status=1, errors=f"tftp-show: frame 11: {fault}\n")
+
+
+def raw(*told: Any) -> bytes:
+    """A capture of datagrams."""
+    return f.classic(f.frames(told, f.RAW), f.RAW)
 
 
 def test_selection(tmp_path: Path) -> None:
     """`--port`, `--transfer`, `--json`, and what is not TFTP."""
     told = f.exchange()
-    other = [(at, s, (t[0], 6969) if t[1] == 69 else t, payload) for at, s, t, payload in told]
-    capture = f.classic(f.frames(other, f.RAW), f.RAW)
+    capture = raw(*((at, s, (t[0], 6969) if t[1] == 69 else t, payload) for at, s, t, payload in told))
     assert run(["--flow"], capture) == (0, "", ""), "another port"
     reads("a port", capture, tmp_path, REPORT.replace(":69\n", ":6969\n"), words=["--port", "6969"])
-    names = [(5, (f.CLIENT, 5353), (f.SERVER, 53), b"\0\1what\0octet\0")]
-    late = [(9_000_000 + told[-1][0], (f.SERVER, 7), (f.CLIENT, 69), ack(7))]
-    mixed = f.classic(f.frames(names + told + late, f.RAW), f.RAW)
+    name = (5, (f.CLIENT, 5353), (f.SERVER, 53), b"\0\1what\0octet\0")
+    late = (9_000_000 + told[-1][0], (f.SERVER, 7), (f.CLIENT, 69), ack(7))
     stray = "frame 12: 192.0.2.1:7 > 192.0.2.2:69 ACK 7, of no transfer\n"
-    assert run(["--flow"], mixed) == (1, stray + later(REPORT), ""), "a stranger at the port"
-    second = f.exchange(1025, 2001, told[0][0] + 100, "b")
-    both = f.classic(f.frames(sorted(told + second), f.RAW), f.RAW)
+    assert run(["--flow"], raw(name, *told, late)) == (1, stray + LATER, ""), "a stranger at the port"
+    both = raw(*sorted(told + f.exchange(1025, 2001, told[0][0] + 100, "b")))
     status, output, _ = run(["--flow", "--transfer", "2"], both)
     assert status == 0 and output.startswith("transfer 2: 192.0.2.2:1025 reads") and "transfer 1" not in output
     assert run(["--flow", "--transfer", "3"], both) == (2, "", "tftp-show: no such transfer\n")
     status, output, _ = run(["--json"], both)
     assert (status, [json.loads(line)["transfer"] for line in output.splitlines()]) == (0, [1, 2])
-    quote = f.classic(f.frames([(0, (f.CLIENT, 9), (f.SERVER, 69), rrq('a"\\b'))], f.RAW), f.RAW)
+    quote = raw((0, (f.CLIENT, 9), (f.SERVER, 69), rrq('a"\\b')))
     assert '"' in json.loads(run(["--json"], quote)[1])["request"]
 
 
 # A put, an ERROR of each side, a request that nobody answers, and one whose DATA are cut: after how many microseconds
 # each begins, how many are between two datagrams, which side sends each, and the datagrams
-TOLD: list[tuple[int, int, str, list[bytes]]] = [
+TOLD = [
     (0, 100_000, "cscsccs", [wrq("up", blksize=8, tsize=11), oack(blksize=8, tsize=11), data(1, b"12345678"), ack(1),
                              data(2, b"ABC"), data(2, b"ABC"), ack(2)]),
     (1_000_000, 250_000, "cs", [rrq("none", "netascii"), error(1, "file not found")]),
@@ -244,19 +191,16 @@ TOLD: list[tuple[int, int, str, list[bytes]]] = [
 ]
 
 
-def told_transfers() -> Iterator[f.Datagram]:
+def test_json() -> None:
+    """Each field of each kind of transfer as tftp-show(1) describes it, read by another parser of JSON."""
+    seen = []
     for at, (after, step, sides, packets) in enumerate(TOLD, 1):
         client, server = (f.CLIENT, 2_000 + at), (f.SERVER, 3_000 + at)
         for number, (side, packet) in enumerate(zip(sides, packets)):
-            asked = (f.SERVER, 69) if packet[1] in (1, 2) else server
-            source, target = (client, asked) if side == "c" else (server, client)
-            yield 1_764_000_000_000_000 + after + number * step, source, target, packet
-
-
-def test_json() -> None:
-    """Each field of each kind of transfer as tftp-show(1) describes it, read by another parser of JSON."""
+            ends = [client, (f.SERVER, 69) if packet[1] in (1, 2) else server][::1 if side == "c" else -1]
+            seen.append((1_764_000_000_000_000 + after + number * step, *ends, packet))
     # (a datagram of 1,024 bytes is cut where a frame may have 600)
-    for told, wanted in [(told_transfers(), TRANSFERS[:-1]), (f.exchange(), TRANSFERS[-1:])]:
+    for told, wanted in [(seen, TRANSFERS[:-1]), (f.exchange(), TRANSFERS[-1:])]:
         status, output, errors = run(["--json"], f.classic(f.frames(told, f.ETHERNET), f.ETHERNET, snap=600))
         assert (status, [json.loads(line) for line in output.splitlines()], errors) == (0, wanted, "")
 
@@ -266,10 +210,10 @@ def test_port_again() -> None:
     over, the first is known all the same."""
     client, other, server = (f.CLIENT, 2070), ("192.0.2.3", 2070), (f.SERVER, 69)
     told = [(0, client, server, rrq("a")), (1, server, client, data(1, bytes(512))), (2, client, server, rrq("b")),
-            (3, client, server, rrq("c")), (4, other, server, rrq("d")), (5, server, other, data(1, bytes(512)))]
-    for second in range(10, 60, 10):
-        told += [(second * 1_000_000 + after, client, server, sent) for after, sent in enumerate((ack(1), rrq("c")))]
-    status, output, _ = run(["--json"], f.classic(f.frames(told, f.RAW), f.RAW))
+            (3, client, server, rrq("c")), (4, other, server, rrq("d")), (5, server, other, data(1, bytes(512))),
+            *((second * 1_000_000 + after, client, server, sent)
+              for second in range(10, 60, 10) for after, sent in enumerate((ack(1), rrq("c"))))]
+    status, output, _ = run(["--json"], raw(*told))
     counts = {it["request"]: (it["datagrams"], it["beside"]) for it in map(json.loads, output.splitlines())}
     assert (status, counts) == (0, {f"RRQ {name} octet": (count, 0) for name, count in zip("abcd", (7, 1, 6, 2))})
 
@@ -284,88 +228,62 @@ def test_lines() -> None:
         assert run(words, b"0" * 100_000_000) == (2, "", message), "a line without an end"
 
 
-def test_live(tmp_path: Path) -> None:
+@pytest.mark.parametrize("word, wanted", [
+    ("--follow", [(1, "transfer 1: 192.0.2.2:54359 reads from 192.0.2.1:69: RRQ tiny octet blksize=8\n"),
+                  (10, "transfer 1: complete; 3 blocks, 20 bytes in 1.004035 s, 1 sent again\n")]),
+    ("--flow", [(10, REPORT)])])
+def test_live(word: str, wanted: Any, tmp_path: Path) -> None:
     """What is printed while the input goes on."""
-    told = f.frames(f.exchange(), f.RAW)
-    for words, wanted in [
-        (["--follow"], [(1, "transfer 1: 192.0.2.2:54359 reads from 192.0.2.1:69: RRQ tiny octet blksize=8\n"),
-                        (10, "transfer 1: complete; 3 blocks, 20 bytes in 1.004035 s, 1 sent again\n")]),
-        (["--flow"], [(10, REPORT)]),
-    ]:
-        with Program([program("tftp-show"), *words], tmp_path, 10 * PATIENCE, stdin=subprocess.PIPE) as show:
-            pipe, sent, printed = show.process.stdin, 0, ""
-            pipe.write(f.classic([], f.RAW))
-            for count, text in wanted:
-                for at, frame in told[sent:count]:
-                    pipe.write(f.classic([(at, frame)], f.RAW)[24:])
-                pipe.flush()
-                sent, printed = count, printed + text
-                wait_until(lambda: show.take() and len(show.text(show.output)) >= len(printed), text)
-                assert show.text(show.output) == printed
-            pipe.close()
-            assert show.ended() == (0, printed, "")
+    told, sent, printed = f.exchange(), 0, ""
+    with Program([program("tftp-show"), word], tmp_path, 10 * PATIENCE, stdin=subprocess.PIPE) as show:
+        pipe = show.process.stdin
+        pipe.write(raw())
+        for count, text in wanted:
+            pipe.write(raw(*told[sent:count])[24:])
+            pipe.flush()
+            sent, printed = count, printed + text
+            wait_until(lambda: show.take() and len(show.text(show.output)) >= len(printed), text)
+            assert show.text(show.output) == printed
+        pipe.close()
+        assert show.ended() == (0, printed, "")
 
 
 def test_many() -> None:
     """Transfers by the thousand: time in proportion, and memory for the open ones alone."""
-    many = []
-    for number in range(20_000):
-        at = number * 1_000_000
-        many += f.exchange(1024 + number % 60_000, 2000 + number % 60_000, at)
-    capture = f.classic(f.frames(many, f.RAW), f.RAW)
-    status, output, _ = run(["--flow"], capture)
-    assert (status, output.count("complete")) == (0, 20_000)
-    requests = [(n, (f.CLIENT, 1024 + n % 60_000), (f.SERVER, 69), rrq(str(n))) for n in range(10_000)]
+    closed = [it for n in range(20_000) for it in f.exchange(1024 + n % 60_000, 2000 + n % 60_000, n * 1_000_000)]
+    requests = [(n, (f.CLIENT, 1024 + n), (f.SERVER, 69), rrq(str(n))) for n in range(10_000)]
     same = [(n, (f.CLIENT, 1024), (f.SERVER, 69), rrq(str(n))) for n in range(10_000)]
-    for told in (requests, same):
-        status, output, _ = run(["--flow"], f.classic(f.frames(told, f.RAW), f.RAW))
-        assert (status, output.count("answered by nobody")) == (0, 10_000)
+    for told, said in [(closed, "complete"), (requests, "answered by nobody"), (same, "answered by nobody")]:
+        status, output, _ = run(["--flow"], raw(*told))
+        assert (status, output.count(said)) == (0, 20_000 if told is closed else 10_000)
 
 
-def test_examples() -> None:
-    """Those captures of examples/ that have lines beside them are these."""
-    for name in EXAMPLE_CAPTURES:
-        if not (EXAMPLES / f"{name}.txt").exists():
-            continue
-        lines = run(["--flow", EXAMPLES / f"{name}.txt"])
-        status, output, errors = run(["--flow", EXAMPLES / f"{name}.pcap"])
-        assert "complete" in output and (status, output.replace("frame ", "line "), errors) == lines, name
+@pytest.mark.parametrize("name", ["wire", "netboot/uefi"])
+def test_examples(name: str) -> None:
+    """A capture of examples/ is the one in lines beside it."""
+    lines = run(["--flow", EXAMPLES / f"{name}.txt"])
+    status, output, errors = run(["--flow", EXAMPLES / f"{name}.pcap"])
+    assert "complete" in output and (status, output.replace("frame ", "line "), errors) == lines
+
+
+def by_tshark(path: Path, *words: str) -> bytes:
+    """The lines of tshark for the packets of TFTP that it finds in a capture."""
+    needs("tshark")
+    command = ["tshark", "-r", path, "-Y", "tftp", *words]
+    return subprocess.run(command, capture_output=True, timeout=PATIENCE, check=True).stdout
+
+
+PAYLOADS = ["-T", "fields", "-E", "occurrence=f", "-e", "udp.payload"]
 
 
 def test_tshark(tmp_path: Path) -> None:
     """What `tshark` finds in the captures, packet by packet."""
-    needs("tshark")
-    fields = ["-e", "frame.number", "-e", "ip.src", "-e", "udp.srcport", "-e", "ip.dst", "-e", "udp.dstport"]
-    path = tmp_path / "seen.pcap"
-    for name, capture in list(samples())[::7] + [("two interfaces", two_interfaces())]:
-        path.write_bytes(capture)
-        words: list[Any] = ["tshark", "-r", path, "-Y", "tftp", "-T", "fields", "-E", "occurrence=f"]
-        seen = subprocess.run([*words, "-e", "udp.payload"], capture_output=True, timeout=PATIENCE).stdout
-        assert run([], seen) == (0, LINES, ""), name
-        told = subprocess.run([*words, *fields], capture_output=True, timeout=PATIENCE, text=True).stdout
-        assert len(told.splitlines()) == 10, name
-    for name in EXAMPLE_CAPTURES:
-        path = EXAMPLES / f"{name}.pcap"
-        told = subprocess.run(["tshark", "-r", path, "-Y", "tftp"], capture_output=True, timeout=PATIENCE, text=True).stdout
-        status, output, errors = run([path])
-        assert (status, len(output.splitlines()), errors) == (0, len(told.splitlines()), ""), name
-
-
-@pytest.mark.parametrize("where", ["lo", "any"])
-def test_tcpdump(where: str, tmp_path: Path) -> None:
-    """An exchange on the loopback interface that `tcpdump` records."""
-    host, path = own_address(), tmp_path / "recorded.pcap"
-    client, server = Port(host), Port(host)
-    with recording(where, host, path):
-        for _, source, _, payload in f.exchange():
-            sender, receiver = (client, server) if source[0] == f.CLIENT else (server, client)
-            sender.send(payload, receiver.address)
-            receiver.receive()
-            time.sleep(0.01)
-    status, output, _ = run(["--port", str(server.address[1]), path])
-    # (at all interfaces each datagram may be seen twice)
-    twice = "".join(line * 2 for line in LINES.splitlines(True)) if where == "any" else LINES
-    assert status == 0 and output in (LINES, twice), output
+    for name, capture in [*SAMPLES.items()][::7] + [*SAMPLES.items()][-1:]:
+        (tmp_path / "seen.pcap").write_bytes(capture)
+        assert run([], by_tshark(tmp_path / "seen.pcap", *PAYLOADS)) == (0, LINES, ""), name
+    for name in ("wire", "netboot/uefi", "netboot/bios"):
+        status, output, errors = run([EXAMPLES / f"{name}.pcap"])
+        assert (status, output.count("\n"), errors) == (0, by_tshark(EXAMPLES / f"{name}.pcap").count(b"\n"), ""), name
 
 
 @contextmanager
@@ -373,14 +291,14 @@ def recording(where: str, host: str, path: Path) -> Iterator[None]:
     """A tcpdump records what this address sends and receives meanwhile. It begins to record behind its first line,
     and later on a busy host: what was sent before a mark that it has is there, too."""
     needs("tcpdump")
-    words: list[Any] = ["tcpdump", "-i", where, "--immediate-mode", "-U", "-w", path, "-Z", "root", "udp", "and", "host", host]
+    words = ["tcpdump", "-i", where, "--immediate-mode", "-U", "-w", path, "-Z", "root", "udp", "and", "host", host]
     with Program(words, path.parent, 10 * PATIENCE) as dump, Port(host).socket as port:
         def has(mark: bytes) -> bool:
             # (to the port of `discard`)
             port.sendto(mark, (host, 9))
             return path.exists() and mark in path.read_bytes()
 
-        wait_until(lambda: "listening on" in errors_of(dump) or dump.process.poll() is not None, "what tcpdump says")
+        wait_until(lambda: not dump.take() or "listening on" in dump.text(dump.process.stderr), "what tcpdump says")
         if dump.process.poll() is not None:
             pytest.skip(f"tcpdump may not capture at {where}")
         wait_until(lambda: has(b"from here on"), "that tcpdump records")
@@ -390,48 +308,42 @@ def recording(where: str, host: str, path: Path) -> Iterator[None]:
         dump.ended()
 
 
-def errors_of(dump: Program) -> str:
-    dump.take()
-    return dump.text(dump.process.stderr)
-
-
-def commands(host: str) -> Iterator[list[str]]:
+def commands(host: str) -> Iterator[list[Any]]:
     """A get and a put at port 69 of this host by each client that is installed, in the folder of the file `boot`."""
-    yield [str(program("tftp")), "get", f"{host}:69", "boot", "got", "--blksize", "1428", "--tsize"]
-    yield [str(program("tftp")), "put", f"{host}:69", "boot", "ours", "--netascii"]
+    yield [program("tftp"), "get", f"{host}:69", "boot", "got", "--blksize", "1428", "--tsize"]
+    yield [program("tftp"), "put", f"{host}:69", "boot", "ours", "--netascii"]
     for client in filter(others.is_installed, others.CLIENTS):
         yield others.command(client, "get", (host, 69), "boot", "got")
         yield others.command(client, "put", (host, 69), client, "boot")
 
 
-def test_transfers(tmp_path: Path) -> None:
+@pytest.mark.parametrize("where", ["lo", "any"])
+def test_transfers(where: str, tmp_path: Path) -> None:
     """Transfers of `tftpd` with each client that is installed, as `tcpdump` records and `tshark` reads them."""
     needs("tshark")
     if os.geteuid() != 0:
         pytest.skip("no root, which port 69 asks for")
     host, path = own_address(), tmp_path / "transfers.pcap"
     for name in ("served/boot", "here/boot"):
-        (tmp_path / name).parent.mkdir(exist_ok=True)
+        (tmp_path / name).parent.mkdir()
         (tmp_path / name).write_bytes(random.Random(57).randbytes(3000))
     tftpd, all_commands = [program("tftpd"), "served", "--listen", f"{host}:69", "--forever"], [*commands(host)]
-    with recording("lo", host, path), Program(tftpd, tmp_path, 10 * PATIENCE) as server:
+    with recording(where, host, path), Program(tftpd, tmp_path, 10 * PATIENCE) as server:
         server.first_line()
         for words in all_commands:
             run_command(*words, cwd=tmp_path / "here")
             (tmp_path / "here/got").unlink(missing_ok=True)
-    fields = ["tshark", "-r", path, "-Y", "tftp", "-T", "fields", "-E", "occurrence=f", "-e", "udp.payload"]
-    seen = subprocess.run(fields, capture_output=True, timeout=PATIENCE, check=True).stdout
-    assert run([path]) == (0, run([], seen)[1], "")
+    assert run([path]) == (0, run([], by_tshark(path, *PAYLOADS))[1], "")
     status, output, errors = run(["--flow", path])
-    assert (status, output.count("ended    complete"), errors) == (0, len(all_commands), "")
+    # (at all interfaces each datagram is seen twice)
+    assert where == "any" or (status, output.count("ended    complete"), errors) == (0, len(all_commands), "")
 
 
 # ---- captures with some bytes changed, removed or repeated
 
-KEPT = [capture for _, capture in samples() if len(capture) < 5000] + [two_interfaces()]
 
-
-@many(MUTATIONS, mutated(KEPT, False), st.sampled_from(["--flow", "--json", "--follow", ""]))
+@many(MUTATIONS, mutated([capture for capture in SAMPLES.values() if len(capture) < 5000], False),
+      st.sampled_from(["--flow", "--json", "--follow", ""]))
 def test_mutations(capture: bytes, words: str) -> None:
     """No crash, no more memory and no more time."""
     status, _, errors = run(words.split(), capture)

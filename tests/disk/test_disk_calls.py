@@ -1,9 +1,7 @@
 """The calls of tftpd and tftp on the files of transfers, as strace shows them. Each call that touches ROOT, or the
-folder of LOCAL, is one that the two trusted files of `tftp_disk` make and note: `CALLS` says which call of the system
-each function there is, with its flags. The calls of a get, a put, an overwrite, puts and gets that fail, and texts
-are then those of the tables of calls.txt, with these paths and results and in this order, and no others; what is read
-and written are the bytes of the file. Between them stands where the last ACK is sent: behind all that a commit
-does."""
+folder of LOCAL, is one that the two trusted files of `tftp_disk` make and note (`CALLS`). Those of a get, a put, an
+overwrite, puts and gets that fail, and texts are those of calls.txt, with these paths and results and in this order,
+and no others; what is read and written are the bytes of the file. The last ACK is behind all that a commit does."""
 import re
 from pathlib import Path
 from typing import NamedTuple
@@ -12,15 +10,14 @@ import pytest
 
 from lib.packets import ack
 from lib.programs import TOP
-from traced import CALLS, Trace, run
+from traced import CALLS, transfer
 
 # The trusted files, and what a function in them looks like that makes a call of its own: `make_locked` is a `make`
 # and then a `try_lock`, `lock` a `try_to_write` and a `try_lock`, and `seconds` asks the clock
 TRUSTED = {"system_disk.rt": r"^    fn (?!(?:view|make_locked|lock|seconds)\b)(\w+)",
            "disk_file/calls.rt": r"^    (?:pub fn|fn) (\w+)"}
-# A file of several blocks, and a text of as many bytes
-FILE = b"0123456789abcdef" * 80
-TEXT = b"a line of a text\n" * 60
+# A file of three blocks, and a text of as many
+FILE, TEXT = b"0123456789abcdef" * 80, b"a line of a text\n" * 60
 # The functions that no case here calls: a long put is synced on its way once no datagram waits, and what no table has
 UNTRIED = {"sync_data"}
 
@@ -60,35 +57,17 @@ def lines_of(parts: str) -> list[str]:
     return [line for part in parts.split() for line in PARTS[part]]
 
 
-def made(room: Path, content: bytes) -> tuple[Path, Path]:
-    """The folder that is served, and that of LOCAL."""
-    root, here = room / "served", room / "here"
-    for folder in (root / "sub", here):
-        folder.mkdir(parents=True)
-    for path in (root / "a", here / "file"):
-        path.write_bytes(content)
-    (root / "old").write_bytes(b"old")
-    (root / "old").chmod(0o600)
-    return root, here
-
-
-@pytest.mark.parametrize("title", CASES)
-def test_calls(title: str, tmp_path: Path) -> None:
-    case = CASES[title]
-    root, here = made(tmp_path, case.content)
-    client = case.client.replace("HERE", str(here)).split()
-    status, printed = run(tmp_path, root, case.server.split(), client, limit=case.limit)
-    assert status == case.status, printed
-    names = {str(root): "ROOT", str(here): "HERE"}
+@pytest.mark.parametrize("case", CASES.values(), ids=CASES)
+def test_calls(case: Case, tmp_path: Path) -> None:
+    done = transfer(tmp_path, case.content, case.server, case.client, ack(3), case.limit)
+    assert done.status == case.status, done.printed
     for who, wanted in [("server", f"START {case.calls}"), ("client", case.local_calls)]:
-        # (of three blocks)
-        assert Trace(tmp_path / f"{who}.log", names, ack(3)).calls(case.content) == lines_of(wanted), who
+        assert [line.of(case.content) for line in done.calls(who)] == lines_of(wanted), who
 
 
 def test_each_trusted_function_has_its_call() -> None:
     """The functions of the trusted files are those of CALLS, and each but UNTRIED stands in a table."""
-    source = TOP / "crates/tftp_disk/src"
-    names = {name for file, form in TRUSTED.items() for name in re.findall(form, (source / file).read_text(), re.M)}
-    assert names == set(CALLS)
+    texts = {form: (TOP / "crates/tftp_disk/src" / file).read_text() for file, form in TRUSTED.items()}
+    assert {*CALLS} == {name for form, text in texts.items() for name in re.findall(form, text, re.M)}
     lines = [line for case in CASES.values() for line in lines_of(f"START {case.calls} {case.local_calls}")]
-    assert set(CALLS) - {line.split()[0] for line in lines} == UNTRIED
+    assert {*CALLS} - {line.split()[0] for line in lines} == UNTRIED

@@ -1,5 +1,6 @@
 """What documents have that is made from the sources is as it is made (docs/made)."""
 import sys
+from functools import lru_cache
 
 import pytest
 
@@ -9,19 +10,12 @@ sys.path[:0] = [str(TOP / "docs/made")]
 import figures
 import made
 
-
-@pytest.mark.parametrize("path", made.MADE)
-def test_a_text_or_picture(path: str) -> None:
-    assert (TOP / path).read_text() == made.MADE[path](), "docs/made/made.py --write makes it"
+texts = lru_cache(None)(figures.texts)
 
 
-@pytest.fixture(scope="module")
-def texts() -> "dict[str, str]":
-    return figures.texts()
-
-
-@pytest.mark.parametrize("path", made.FIGURES)
-def test_a_figure(path: str, texts: "dict[str, str]") -> None:
-    if path not in texts:
+@pytest.mark.parametrize("path", [*made.MADE, *made.FIGURES])
+def test_what_is_made(path: str) -> None:
+    text = made.MADE[path]() if path in made.MADE else texts().get(path)
+    if text is None:
         pytest.skip("no dot 2.43.0")
-    assert (TOP / path).read_text() == texts[path], "docs/made/made.py --write makes it"
+    assert (TOP / path).read_text() == text, "make docs makes it"

@@ -4,113 +4,103 @@ manuals in man/, with docs/OPERATING.md and with the units; completions are made
 and systemd none in the units."""
 import re
 import shutil
-import subprocess
 from pathlib import Path
+from typing import Iterable
 
 import pytest
 
-from lib import named_options as options
-from lib.named_options import MANUALS, OPTION, VERBS, known, long_ones, of_help, of_mdoc, printed
-from lib.programs import TOP
+from lib.named_options import VERBS, known, of_help, printed
+from lib.needs import needs
+from lib.programs import TOP, ran
+from lib.units import arguments_of
+from version import WHOLE
 
-OPERATING = (TOP / "docs/OPERATING.md").read_text()
 UNITS = ["tftpd.service", "tftpd@.service", "tftpd-socket.service"]
+OPTION = re.compile(r"(?<![\w-])--[A-Za-z][\w-]*")
 # the longest command that a manual shows in 80 columns
 COLUMNS = 68
 # the first systemd that knows each setting of the units
 SYSTEMD = 247
-ALL_MANUALS = sorted(str(path.relative_to(TOP)) for path in (TOP / "man").glob("*.[1-8]"))
+MANUALS = sorted(str(path.relative_to(TOP)) for path in (TOP / "man").glob("*.[1-8]"))
+
+
+def long_ones(options: Iterable[str]) -> set[str]:
+    return {option for option in options if option.startswith("--")}
 
 
 @pytest.mark.parametrize("name", VERBS)
 def test_help_and_version(name: str) -> None:
     for verb in VERBS[name]:
         assert {"-h", "--help"} <= of_help(name, verb), f"{name} {verb}: the help lists no options"
-    version = re.findall(r"(?m)^VERSION := (\S+)$", (TOP / "Makefile").read_text())[0]
     # (a kit with the same logic proves the same under another name)
-    kit = subprocess.run(["rt", "version"], capture_output=True, text=True).stdout if shutil.which("rt") else ""
-    logic = kit.strip().partition(" ")[2]
-    assert printed(name, "--version").startswith(f"{name} {version} ({logic})" if logic else f"{name} {version} ")
+    logic = ran("rt", "version").stdout.strip().partition(" ")[2] if shutil.which("rt") else ""
+    assert printed(name, "--version").startswith(f"{name} {WHOLE} ({logic})" if logic else f"{name} {WHOLE} ")
 
 
 @pytest.mark.parametrize("name", VERBS)
 def test_manual(name: str) -> None:
     """The manual has an item for each option and names no other anywhere. Its synopsis has each long one, unless it
     has `options` in place of them."""
-    text = (TOP / MANUALS[name]).read_text()
-    synopsis = [line.lstrip(".") for line in re.findall(r"(?ms)^\.Sh SYNOPSIS\n(.*?)^\.Sh ", text)[0].splitlines()]
-    if "Op Ar options" not in synopsis:
-        assert options.differences(long_ones(known(name)), long_ones(it for line in synopsis for it in of_mdoc(line))) == []
-    lines = [line[1:] for line in text.splitlines() if re.match(r"\.[A-Z]", line)]
-    assert options.differences(known(name), {it for line in lines if line.startswith("It Fl") for it in of_mdoc(line)}) == []
-    assert {it for line in lines if line[:5] != "It Fl" for it in of_mdoc(line)} <= known(name)
-    shown = [line[3:] for line in lines if line.startswith("Dl ")]
+    def of_mdoc(lines: Iterable[str]) -> set[str]:
+        return {f"-{word}" for line in lines for word in re.findall(r"\bFl (-?[A-Za-z][\w-]*)", line)}
+
+    text = (TOP / f"man/{name}.{8 if name == 'tftpd' else 1}").read_text()
+    synopsis = re.findall(r"(?ms)^\.Sh SYNOPSIS\n(.*?)^\.Sh ", text)[0].splitlines()
+    assert ".Op Ar options" in synopsis or long_ones(of_mdoc(synopsis)) == long_ones(known(name))
+    lines = [line for line in text.splitlines() if re.match(r"\.[A-Z]", line)]
+    assert of_mdoc(line for line in lines if line.startswith(".It Fl")) == known(name)
+    assert of_mdoc(lines) <= known(name)
+    shown = [line[4:] for line in lines if line.startswith(".Dl ")]
     for block in re.findall(r"(?ms)^\.Bd -literal[^\n]*\n(.*?)^\.Ed$", text):
         shown += block.replace("\\e\n", " ").splitlines()
-    assert options.foreign_in(line.replace("\\&", "") for line in shown) == []
+    runs = re.findall(r"(?m)^(?:[$#] )?(?:\S*/)?(tftp(?:-show|-play|d)?) (.*)", "\n".join(shown).replace("\\&", ""))
+    assert [(run, words) for run, words in runs if not {*OPTION.findall(words)} <= known(run)] == []
     # what is longer is broken at 80 columns, into what looks like two commands
     assert [line for line in re.findall(r"(?m)^(?:\.Dl )?([#$] .*)$", text) if len(line) > COLUMNS] == []
 
 
-@pytest.mark.parametrize("name", ["tftp", "tftpd"])
-def test_the_help_is_that_of_the_crate(name: str) -> None:
-    """`rt ci` compares the help of these crates with the same texts."""
-    assert printed(name, "--help") == (TOP / f"crates/{name}_main/stdout").read_text()
-
-
 def test_operating() -> None:
     """The page for operators names each long option of tftpd but one that no operator gives, and none that no program
-    of ours has."""
-    pieces = options.code_of(OPERATING)
-    alone = {it for piece in pieces if piece.startswith("--") for it in long_ones(OPTION.findall(piece))}
+    of ours has. (test_commands.py looks at those in its commands.)"""
+    pieces = re.findall(r"(?ms)^```.*?^```$|`[^`]+`", (TOP / "docs/OPERATING.md").read_text())
+    alone = {it for piece in pieces if piece.startswith("`--") for it in OPTION.findall(piece)}
     assert alone <= set().union(*map(known, VERBS))
-    assert options.foreign_in(pieces) == []
-    given = {it for _, name, words in options.ours_of(pieces) if name == "tftpd" for it in long_ones(OPTION.findall(words))}
+    given = {it for piece in pieces if "tftpd" in piece for it in OPTION.findall(piece.replace("\\\n", " "))}
     internal = set(re.findall(r"(?m)^ +(--[\w-]+).*  Internal: ", printed("tftpd", "--help")))
-    assert options.differences(long_ones(known("tftpd")) - internal, ((alone | given) & known("tftpd")) - internal) == []
+    assert long_ones(known("tftpd")) - internal - alone - given == set()
 
 
 @pytest.mark.parametrize("unit", UNITS)
 def test_a_unit_starts_tftpd(unit: str) -> None:
-    commands = [line for line in (TOP / "packaging" / unit).read_text().splitlines() if "ExecStart=" in line]
-    assert options.foreign_in(commands) == []
-    assert any("--" in words for _, name, words in options.ours_of(commands) if name == "tftpd")
+    given = long_ones(arguments_of(unit))
+    assert given and given <= known("tftpd")
 
 
-def verified(unit: Path) -> "subprocess.CompletedProcess[str]":
-    words = ["systemd-analyze", "verify", "--man=no", unit]
-    return subprocess.run(words, stdin=subprocess.DEVNULL, capture_output=True, text=True, timeout=600)
-
-
-@pytest.mark.parametrize("name", [*UNITS, "tftpd.socket"])
-def test_systemd_finds_nothing(name: str, tmp_path: Path) -> None:
-    if not shutil.which("systemd-analyze"):
-        pytest.skip("no systemd-analyze")
-    version = re.match(r"systemd (\d+)", subprocess.run(["systemd-analyze", "--version"], capture_output=True, text=True).stdout)
-    if not version or int(version[1]) < SYSTEMD:
-        pytest.skip(f"systemd before {SYSTEMD}")
+def test_systemd_finds_nothing(tmp_path: Path) -> None:
+    needs("systemd-analyze")
+    version = re.match(r"systemd (\d+)", ran("systemd-analyze", "--version").stdout)
     # a unit in which there is nothing to find
     (tmp_path / "sound.service").write_text("[Service]\nExecStart=/bin/sh\n")
-    if verified(tmp_path / "sound.service").returncode:
-        pytest.skip("systemd-analyze verify does not work here")
-    for other in [*UNITS, "tftpd.socket"]:
+    verify = ["systemd-analyze", "verify", "--man=no"]
+    if not version or int(version[1]) < SYSTEMD or ran(*verify, tmp_path / "sound.service").returncode:
+        pytest.skip(f"systemd before {SYSTEMD}, or systemd-analyze verify does not work here")
+    for name in [*UNITS, "tftpd.socket"]:
         # tftpd need not be installed
-        text = re.sub(r'(?m)^(ExecStart=)("[^"]*"|\S+)', r"\1/bin/sh", (TOP / "packaging" / other).read_text())
-        (tmp_path / other.replace("@", "@6901")).write_text(text)
-    unit = tmp_path / name.replace("@", "@6901")
-    done = verified(unit)
+        text = re.sub(r'(?m)^(ExecStart=)("[^"]*"|\S+)', r"\1/bin/sh", (TOP / "packaging" / name).read_text())
+        (tmp_path / name.replace("@", "@6901")).write_text(text)
+    done = ran(*verify, *tmp_path.glob("tftpd*"))
     # some of what it finds leaves the status at 0
-    assert [line for line in done.stderr.splitlines() if unit.name in line] == [] and done.returncode == 0, done.stderr
+    assert [line for line in done.stderr.splitlines() if re.search(r"\btftpd\S*\.(service|socket)", line)] == []
+    assert done.returncode == 0, done.stderr
 
 
-@pytest.mark.parametrize("manual", ALL_MANUALS)
+@pytest.mark.parametrize("manual", MANUALS)
 def test_the_form_of_a_manual(manual: str) -> None:
     """mandoc finds no error in it, and each manual of ours that it refers to is there. Remarks below an error differ
     from one mandoc to the next, and depend on what is installed."""
     for name, section in re.findall(r"^\.Xr (tftp\S*) (\d)", (TOP / manual).read_text(), re.M):
-        assert f"man/{name}.{section}" in ALL_MANUALS
-    if not shutil.which("mandoc"):
-        pytest.skip("no mandoc")
-    done = subprocess.run(["mandoc", "-Tlint", "-Werror", manual], cwd=TOP, capture_output=True, text=True, timeout=600)
+        assert f"man/{name}.{section}" in MANUALS
+    needs("mandoc")
+    done = ran("mandoc", "-Tlint", "-Werror", manual)
     assert [line for line in done.stdout.splitlines() if re.search(r": (ERROR|UNSUPP|FATAL): ", line)] == []
     assert done.returncode <= 2, done.stdout + done.stderr

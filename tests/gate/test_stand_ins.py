@@ -3,9 +3,7 @@ once.
 
 One needs a server that works: it takes the tftpd of bin/, or else that of `rt ci`, and is skipped without it.
 """
-import os
 import random
-import subprocess
 import sys
 from contextlib import suppress
 from pathlib import Path
@@ -13,20 +11,21 @@ from typing import Any
 
 import pytest
 
-from lib import programs
+from lib import programs, scene
 from lib.process import Failure
 from lib.programs import TOP
 
 sys.path[:0] = [str(TOP / "tests/soak")]
 
-import hostile
 import lossy
 import raw
 from ports import Stalled
 
+HERE = TOP / "tests/gate/stand_ins"
+
 
 def stand_ins(tftp: str, tftpd: str) -> dict[str, str]:
-    return {"tftp": str(TOP / "tests/gate/stand_ins" / tftp), "tftpd": str(TOP / "tests/gate/stand_ins" / tftpd)}
+    return {"tftp": str(HERE / tftp), "tftpd": str(HERE / tftpd)}
 
 
 # What is tried, the programs, the longest wait of it, if another, and the words of the reason for which it fails
@@ -35,8 +34,7 @@ def stand_ins(tftp: str, tftpd: str) -> dict[str, str]:
     (lossy, "idle", "silent_tftpd", None, "get 0: status 0"),
     (lossy, "giving_up_tftp", "lying_tftpd", None, "reports a read as complete"),
     (raw, "idle", "silent_tftpd", 1, "no answer"),
-    (raw, "idle", "unwilling_tftpd", None, "in place of"),
-    (hostile, "idle", "silent_tftpd", 1, "no request")])
+    (raw, "idle", "unwilling_tftpd", None, "in place of")])
 def test_a_trial_fails(trials: Any, tftp: str, tftpd: str, patience: Any, words: str, tmp_path: Path,
                        monkeypatch: Any) -> None:
     if patience:
@@ -56,9 +54,7 @@ def test_every_trial_stalls(tmp_path: Path, monkeypatch: Any) -> None:
 
 
 def test_a_file_of_no_transfer(tmp_path: Path, monkeypatch: Any) -> None:
-    served = programs.found("tftpd")
-    if not served:
-        pytest.skip("there is no tftpd")
+    served = programs.found("tftpd") or pytest.skip("there is no tftpd")
     monkeypatch.setenv("TFTPD", str(served))
     with pytest.raises(Failure, match="litter.* differ"):
         for at in range(9):
@@ -69,18 +65,8 @@ def test_a_file_of_no_transfer(tmp_path: Path, monkeypatch: Any) -> None:
                 break
 
 
-# The tests of the programs as processes: the programs, a test, words of its run, and what it says beside the test's
-# name. A test that hangs is named, and the first line of a server that never listens is waited for no longer than a
-# limit
-@pytest.mark.parametrize("tftp, tftpd, test, words, said", [
-    ("idle", "silent_tftpd", "test_closed_streams_of_a_client", [], ""),
-    ("mute_tftpd", "silent_tftpd", "test_loopback", ["--timeout", "3"], ""),
-    ("idle", "mute_tftpd", "test_serves_forever", [], "no line after 1 seconds")])
-def test_a_test_fails(tftp: str, tftpd: str, test: str, words: list[str], said: str, tmp_path: Path) -> None:
-    for program, path in stand_ins(tftp, tftpd).items():
-        (tmp_path / program).symlink_to(path)
-    env = {**os.environ, "TFTP_PROGRAMS": str(tmp_path), "TESTS_ONCE": "1", **({"TESTS_PATIENCE": "1"} if said else {})}
-    command = ["pytest-3", "-q", "-n0", str(TOP / "tests/tftpd/test_both_programs.py"), "-k", f"{test} and one", *words]
-    done = subprocess.run(command, capture_output=True, text=True, timeout=120, env=env)
-    assert done.returncode == 1, done.stdout
-    assert test in done.stdout and said in done.stdout
+def test_a_server_never_listens(tmp_path: Path, monkeypatch: Any) -> None:
+    monkeypatch.setattr(scene, "PATIENCE", 1)
+    with scene.Scene({"tftpd": str(HERE / "mute_tftpd")}, tmp_path / "scene", "127.0.0.1") as made:
+        with pytest.raises(AssertionError, match="no line after 1 seconds"):
+            made.serve()

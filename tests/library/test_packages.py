@@ -1,7 +1,6 @@
 """What is installed and packed: `make install`, `uninstall`, `dist` and `deb` in a copy of the files that they take,
-with the programs of bin/; the packages below a folder, beside others, and with a compiler; and in a chroot, in which
-an example of each language is built from the packages' files alone and gets, puts, and is refused a file at the
-example that serves."""
+with the programs of bin/; the packages below a folder, beside others, and with a linker; and in a chroot, in which an
+example of each language is built from the packages' files alone and gets, puts, and is refused a file at tftpd."""
 import filecmp
 import os
 import re
@@ -15,18 +14,16 @@ import pytest
 
 from lib import transfers
 from lib.chroot import Inside, furnish, is_possible
-from lib.ends import expect
-from lib.examples import Built, in_c, in_cpp, in_go, in_python, in_rust, run, rust_has_sanitizer
+from lib.examples import in_c, in_cpp, in_go, in_python, in_rust, run, rust_has_sanitizer
 from lib.needs import needs
-from lib.programs import NAMES, TOP, program
+from lib.programs import NAMES, TOP, program, programs
 
-COPIED = ["Makefile", "LICENSE", "SECURITY.md", "crates.txt", "completions", "debian", "docs/OPERATING.md", "ports",
-          "examples", "include", "man", "packaging", "tools"]
 WORDS = ["PREFIX=/usr", "PROGRAM_PREFIX=x-", "MANDIR=/usr/man", "UNITDIR=/usr/units"]
-SHELLS = {"bash": ["bash", "-n"], "zsh": ["zsh", "-f", "-n"], "fish": ["fish", "--no-execute"]}
-UNITS = ["x-tftpd.service", "x-tftpd@.service", "x-tftpd.socket", "x-tftpd-socket.service"]
+SHELLS = {"bash": ["-n"], "zsh": ["-f", "-n"], "fish": ["--no-execute"]}
 # what is installed with these words
 INSTALLED = {*Path(__file__).with_name("installed.txt").read_text().split()}
+# (of a `make` around the tests)
+ENV = {name: value for name, value in os.environ.items() if name not in ("MAKEFLAGS", "MAKELEVEL", "MFLAGS")}
 
 
 def files_below(folder: Path) -> set[str]:
@@ -38,33 +35,33 @@ class Copy:
 
     def __init__(self, room: Path) -> None:
         self.room, self.top = room, room / "top"
-        for name in COPIED:
-            (self.top / name).parent.mkdir(parents=True, exist_ok=True)
-            (shutil.copytree if (TOP / name).is_dir() else shutil.copy2)(TOP / name, self.top / name)
-        for folder in [self.top / "crates", self.top / "bin", room / "path"]:
-            folder.mkdir()
+        left = ["bin", "crates", "out", "tests", ".git"]
+        shutil.copytree(TOP, self.top, ignore=lambda folder, _: left if Path(folder) == TOP else [])
+        for folder in ["top/bin", "top/crates", "path"]:
+            (room / folder).mkdir()
         for name in NAMES:
             shutil.copy(program(name), self.top / "bin" / name)
-        subprocess.run([TOP / "tools/library.sh", self.top / "bin"], check=True)
+        run(TOP / "tools/library.sh", self.top / "bin")
         (room / "path/rt").write_text(f"#!/bin/sh\ntouch '{room}/built'\nexit 1\n")
         (room / "path/rt").chmod(0o755)
 
     def run(self, *words: Any, folder: Any = None, status: int = 0) -> str:
-        env = {**os.environ, "PATH": f"{self.room}/path:{os.environ['PATH']}", "LC_ALL": "C"}
-        for name in ["MAKEFLAGS", "MAKELEVEL", "MFLAGS"]:
-            env.pop(name, None)
+        env = {**ENV, "PATH": f"{self.room}/path:{os.environ['PATH']}", "LC_ALL": "C"}
         return run(*words, cwd=folder or self.top, env=env, status=status)
 
     def packages(self) -> dict[str, Path]:
         """The packages for Debian by their names."""
         needs("dpkg-deb")
-        if not (self.top / "out/packed").exists():
+        if not [*self.top.glob("out/*.deb")]:
             self.run("debian/pack.sh", "9")
-            (self.top / "out/packed").touch()
-        return {path.name.split("_")[0]: path for path in (self.top / "out").glob("*_9_*.deb")}
+        return {path.name.split("_")[0]: path for path in self.top.glob("out/*_9_*.deb")}
 
-    def unpacked(self, package: str, root: Path) -> None:
-        self.run("dpkg-deb", "-x", self.packages()[package], root)
+    def libraries(self, root: Path) -> Path:
+        """The packages of the library below a folder."""
+        root.mkdir(parents=True, exist_ok=True)
+        for package in ["libtftp1", "libtftp-dev"]:
+            self.run("dpkg-deb", "-x", self.packages()[package], root)
+        return root
 
 
 @pytest.fixture(scope="module")
@@ -83,21 +80,20 @@ def test_install(copy: Copy, tmp_path: Path) -> None:
     for name in NAMES:
         place = root / "usr/bin" / f"x-{name}"
         assert filecmp.cmp(place, copy.top / "bin" / name, shallow=False) and place.stat().st_mode & 0o777 == 0o755
-    for name in UNITS:
+    for unit in (root / "usr/units").iterdir():
         # the file that has the server drain is in the folder of the unit at run time
-        text = re.sub(r"%t/x-tftpd(-%i|-socket)?/drain|(?<=EnvironmentFile=)-", "", (root / "usr/units" / name).read_text())
-        named = set(re.findall(r"[\w./-]*tftpd\b(?!\.nft)", text))
-        if name.endswith(".socket"):
-            assert named == {"x-tftpd"}
-            continue
-        assert set(re.findall(r"(?m)^#?ExecStart=(\S+)", text)) == {'"/usr/bin/x-tftpd"'}
-        # standard error goes where standard output goes, unless the unit says otherwise
-        assert "\nStandardError=journal\n" in text, name
-        assert named == {"/usr/bin/x-tftpd", "/etc/default/fanjuvery-x-tftpd", "x-tftpd"}, name
+        text = re.sub(r"%t/x-tftpd(-%i|-socket)?/drain|(?<=EnvironmentFile=)-", "", unit.read_text())
+        own = {"/usr/bin/x-tftpd", "/etc/default/fanjuvery-x-tftpd"} if unit.suffix == ".service" else set()
+        assert {*re.findall(r"[\w./-]*tftpd\b(?!\.nft)", text)} == {"x-tftpd", *own}, unit
+        if own:
+            assert {*re.findall(r"(?m)^#?ExecStart=(\S+)", text)} == {'"/usr/bin/x-tftpd"'}
+            # standard error goes where standard output goes, unless the unit says otherwise
+            assert "\nStandardError=journal\n" in text, unit
     folder = root / "usr/share/doc/fanjuvery"
     for document in folder.glob("*.md"):
-        assert [it for it in re.findall(r"\]\(([^)#:]+)[^):]*\)", document.read_text()) if not (folder / it).exists()] == []
-    named = set(re.findall(r"`(?:man \d )?([\w-]*tftp[\w-]*)`", (folder / "README.md").read_text()))
+        linked = re.findall(r"\]\(([^)#:]+)[^):]*\)", document.read_text())
+        assert [it for it in linked if not (folder / it).exists()] == []
+    named = {*re.findall(r"`(?:man \d )?([\w-]*tftp[\w-]*)`", (folder / "README.md").read_text())}
     assert named == {f"x-{name}" for name in NAMES}
     (root / "usr/bin/other").touch()
     copy.run("make", "uninstall", f"DESTDIR={root}", *WORDS)
@@ -106,26 +102,24 @@ def test_install(copy: Copy, tmp_path: Path) -> None:
 
 def test_no_build(copy: Copy, tmp_path: Path) -> None:
     """Without a program nothing is installed, and nothing is built."""
-    (copy.top / "bin/tftp-play").rename(tmp_path / "moved")
-    try:
-        copy.run("make", "install", f"DESTDIR={tmp_path / 'none'}", status=2)
-    finally:
-        (tmp_path / "moved").rename(copy.top / "bin/tftp-play")
-    assert not (tmp_path / "none").exists() and not (copy.room / "built").exists()
+    shutil.copytree(copy.top / "bin", tmp_path / "bin", ignore=lambda *_: ["tftp-play"])
+    copy.run("make", "install", f"DESTDIR={tmp_path / 'root'}", f"BIN={tmp_path / 'bin'}", status=2)
+    assert not (tmp_path / "root").exists() and not (copy.room / "built").exists()
 
 
 def test_archive(copy: Copy, tmp_path: Path) -> None:
     """The archive is the same each time; its script installs the same files, and its programs run without the kit."""
-    archive = copy.top / copy.run("tools/install.sh", "dist", "9").strip()
+    pack = partial(copy.run, "tools/archive.sh", "dist", "9")
+    archive = copy.top / pack().strip()
     before = archive.read_bytes()
-    copy.run("tools/install.sh", "dist", "9")
+    pack()
     assert archive.read_bytes() == before
     copy.run("tar", "-x", "-z", "-f", archive, "-C", tmp_path)
     unpacked = next(tmp_path.glob("fanjuvery-9-*"))
     copy.run("./install.sh", "install", f"DESTDIR={tmp_path / 'root'}", *WORDS, folder=unpacked)
     assert files_below(tmp_path / "root") == INSTALLED
-    check, kit = ["./install.sh", "check"], shutil.which("rt")
-    if kit:
+    check: list[Any] = ["./install.sh", "check"]
+    if kit := shutil.which("rt"):
         hidden = ["unshare", "--map-root-user", "--mount", "sh", "-c", 'mount -t tmpfs none "$0" && exec "$@"',
                   Path(kit).resolve().parent.parent]
         if subprocess.run([*hidden, "true"], capture_output=True).returncode:
@@ -135,10 +129,10 @@ def test_archive(copy: Copy, tmp_path: Path) -> None:
 
 
 @pytest.mark.parametrize("shell", SHELLS)
-def test_completions_are_read(shell: str, copy: Copy) -> None:
+def test_completions_are_read(shell: str) -> None:
     needs(shell)
     for name in NAMES:
-        copy.run(*SHELLS[shell], f"completions/{name}.{shell}")
+        run(shell, *SHELLS[shell], TOP / f"completions/{name}.{shell}")
 
 
 # ---- the packages for Debian
@@ -147,40 +141,38 @@ def test_completions_are_read(shell: str, copy: Copy) -> None:
 def test_package(copy: Copy, tmp_path: Path) -> None:
     """It has the programs, compressed manuals, a unit, and the documents that Debian asks for; its scripts can be
     read."""
-    root, names = tmp_path / "root", ["conffiles", "control", "md5sums", "postinst", "postrm", "prerm"]
-    copy.run("dpkg-deb", "--raw-extract", copy.packages()["fanjuvery"], root)
-    assert sorted(it.name for it in (root / "DEBIAN").iterdir()) == names
-    for name in names[3:]:
-        copy.run("sh", "-n", root / "DEBIAN" / name)
-    assert {"usr/bin/tftpd", "usr/bin/fanjuvery-tftp", "usr/share/man/man8/fanjuvery-tftpd.8.gz", "etc/default/fanjuvery-tftpd",
-            "usr/share/doc/fanjuvery/copyright", "usr/share/doc/fanjuvery/changelog.gz",
-            "lib/systemd/system/tftpd.service"} <= files_below(root)
+    copy.run("dpkg-deb", "--raw-extract", copy.packages()["fanjuvery"], tmp_path)
+    scripts = ["postinst", "postrm", "prerm"]
+    assert {it.name for it in (tmp_path / "DEBIAN").iterdir()} == {"conffiles", "control", "md5sums", *scripts}
+    for name in scripts:
+        run("sh", "-n", tmp_path / "DEBIAN" / name)
+    assert {"usr/bin/tftpd", "usr/bin/fanjuvery-tftp", "usr/share/man/man8/fanjuvery-tftpd.8.gz",
+            "usr/share/doc/fanjuvery/copyright", "usr/share/doc/fanjuvery/changelog.gz", "etc/default/fanjuvery-tftpd",
+            "lib/systemd/system/tftpd.service"} <= files_below(tmp_path)
 
 
 def test_lintian(copy: Copy) -> None:
-    packages = copy.packages()
     needs("lintian")
-    for package in packages.values():
+    for package in copy.packages().values():
         said = copy.run("lintian", *["--allow-root"] * (os.geteuid() == 0), "--fail-on", "none", package)
-        assert [line for line in said.splitlines() if line.startswith(("E:", "W:"))] == [], package.name
+        assert re.findall("(?m)^[EW]:.*", said) == [], package.name
 
 
-def dpkg(root: Path) -> list[Any]:
+def dpkg(root: Path, *words: Any) -> None:
     """dpkg below a folder, where its scripts start nothing."""
     as_root = [] if os.geteuid() == 0 else ["fakeroot"]
     needs(*as_root)
     (root / "var/lib/dpkg").mkdir(parents=True, exist_ok=True)
     (root / "var/lib/dpkg/status").touch()
-    return [*as_root, "dpkg", "--root", root, "--force-depends", "--force-not-root", "--force-script-chrootless"]
+    run(*as_root, "dpkg", "--root", root, "--force-depends", "--force-not-root", "--force-script-chrootless", *words)
 
 
 def test_removal(copy: Copy, tmp_path: Path) -> None:
-    """A purge leaves nothing of the package."""
-    copy.run(*dpkg(tmp_path), "--install", copy.packages()["fanjuvery"])
-    assert (tmp_path / "usr/bin/tftpd").is_file()
-    found = os.readlink(tmp_path / "usr/bin/tftp"), os.readlink(tmp_path / "etc/alternatives/tftp")
-    assert found == ("/etc/alternatives/tftp", "/usr/bin/fanjuvery-tftp"), "what tftp is, where nobody else has it"
-    copy.run(*dpkg(tmp_path), "--purge", "fanjuvery")
+    """A purge leaves nothing of the package, by which tftp is ours where nobody else has it."""
+    dpkg(tmp_path, "--install", copy.packages()["fanjuvery"])
+    links = [os.readlink(tmp_path / link) for link in ("usr/bin/tftp", "etc/alternatives/tftp")]
+    assert links == ["/etc/alternatives/tftp", "/usr/bin/fanjuvery-tftp"] and (tmp_path / "usr/bin/tftpd").is_file()
+    dpkg(tmp_path, "--purge", "fanjuvery")
     assert [name for name in files_below(tmp_path) if "tftp" in name or "fanjuvery" in name] == []
 
 
@@ -193,99 +185,55 @@ def test_beside_another_package(is_first: bool, copy: Copy, tmp_path: Path) -> N
         (other / folder).mkdir(parents=True)
     (other / "usr/bin/tftp").write_text("another client")
     (other / "usr/share/man/man8/in.tftpd.8.gz").touch()
-    os.symlink("in.tftpd.8.gz", other / "usr/share/man/man8/tftpd.8.gz")
-    (other / "DEBIAN/control").write_text("Package: other\nVersion: 1\nArchitecture: all\nMaintainer: p <p@example.org>\n"
-                                          "Description: another client and server\n of TFTP\n")
-    package = copy.packages()["fanjuvery"]
-    copy.run("dpkg-deb", "--root-owner-group", "--build", other, built)
-    for each in [built, package] if is_first else [package, built]:
-        copy.run(*dpkg(root), "--install", each)
-    for what in ("installed", "purged"):
-        names = [root / "usr/bin/tftp", root / "usr/share/man/man8/tftpd.8.gz"]
-        found = [os.readlink(name) if name.is_symlink() else name.is_file() and name.read_text() for name in names]
-        assert found == ["another client", "in.tftpd.8.gz"], f"what the other package has once this is {what}"
-        copy.run(*dpkg(root), "--purge", "fanjuvery")
+    (other / "usr/share/man/man8/tftpd.8.gz").symlink_to("in.tftpd.8.gz")
+    (other / "DEBIAN/control").write_text(
+        "Package: other\nVersion: 1\nArchitecture: all\nMaintainer: p <p@example.org>\nDescription: one\n of TFTP\n")
+    run("dpkg-deb", "--root-owner-group", "--build", other, built)
+    for each in [built, copy.packages()["fanjuvery"]][::1 if is_first else -1]:
+        dpkg(root, "--install", each)
+    for words in (["--purge", "fanjuvery"], []):
+        client, manual = root / "usr/bin/tftp", root / "usr/share/man/man8/tftpd.8.gz"
+        assert not client.is_symlink() and client.read_text() == "another client", "what the other package has"
+        assert os.readlink(manual) == "in.tftpd.8.gz", "what the other package has"
+        if words:
+            dpkg(root, *words)
 
 
-# ---- a program over the packages of the library
-
-
-class Development:
-    """The packages of the library below a folder, and how pkg-config finds them."""
-
-    def __init__(self, copy: Copy, root: Path) -> None:
-        for package in ["libtftp1", "libtftp-dev"]:
-            copy.unpacked(package, root)
-        self.copy, self.root = copy, root
-        found = next(root.rglob("tftp.pc"))
-        self.libdir, self.source = found.parent.parent, root / "usr/share/doc/libtftp-dev/examples/c/get.c"
-        self.env = ["env", f"PKG_CONFIG_PATH={found.parent}", f"PKG_CONFIG_SYSROOT_DIR={root}"]
-
-    def config(self, *words: str) -> str:
-        return self.copy.run(*self.env, "pkg-config", *words, "tftp").strip()
-
-
-@pytest.fixture(scope="module")
-def development(copy: Copy, tmp_path_factory: pytest.TempPathFactory) -> Development:
-    needs("pkg-config")
-    return Development(copy, tmp_path_factory.mktemp("development"))
-
-
-def test_each_linker_finds_it(development: Development, tmp_path: Path) -> None:
-    """A program is built as any is, linked to either library, and run; ctypes loads the shared one."""
-    libdir, copy = development.libdir, development.copy
+def test_linkers_find_the_library(copy: Copy, tmp_path: Path) -> None:
+    """A project of cmake finds both libraries in the packages, which are below a folder here, and another linker the
+    shared one; dpkg-shlibdeps finds the package that a program needs, by the symbols of libtftp1."""
+    needs("cmake", "dpkg-shlibdeps")
+    root = copy.libraries(tmp_path / "debian/libtftp1")
+    libdir, source = next(root.rglob("libtftp.so.1")).parent, root / "usr/share/doc/libtftp-dev/examples/c/get.c"
     mode = (libdir / "libtftp.so.1").stat().st_mode & 0o777
     assert (mode, (libdir / "libtftp.so").readlink()) == (0o644, Path("libtftp.so.1"))
-    flags = development.config("--cflags", "--libs").split()
-    # (some versions of pkg-config put the folder before a variable, and some do not)
-    archive = development.config("--variable=archive").removeprefix(str(development.root))
-    within = [*development.config("--cflags").split(), f"{development.root}{archive}"]
-    linkers = [["-fuse-ld=gold"]] * bool(shutil.which("ld.gold")) + [[]]
-    for words in [within, *([*flags, f"-Wl,-rpath,{libdir}", *more] for more in linkers)]:
-        copy.run("cc", development.source, "-o", tmp_path / "example", *words)
-        copy.run(tmp_path / "example", status=2)
-    copy.run("python3", "-c", f"import ctypes; assert ctypes.CDLL({os.fspath(libdir / 'libtftp.so')!r}).tftp_version() == 256")
-    depends(development, tmp_path, tmp_path / "example")
-
-
-def depends(development: Development, room: Path, example: Path) -> None:
-    """dpkg-shlibdeps finds the package that a program needs, by the symbols of libtftp1."""
-    needs("dpkg-shlibdeps")
-    (room / "debian/libtftp1").mkdir(parents=True)
-    (room / "debian/control").write_text("Source: p\nMaintainer: p <p@example.org>\n\nPackage: p\nArchitecture: any\n")
-    development.copy.run("dpkg-deb", "-e", development.copy.packages()["libtftp1"], room / "debian/libtftp1/DEBIAN")
-    shutil.copytree(development.libdir, room / "debian/libtftp1" / development.libdir.relative_to(development.root), symlinks=True)
-    found = development.copy.run("dpkg-shlibdeps", "-O", f"-e{example}", "-Sdebian/libtftp1", folder=room)
-    assert "libtftp1 (>= 0.1.0)" in found
-
-
-def test_cmake_finds_it(development: Development, tmp_path: Path) -> None:
-    """A project finds both libraries, in a package that is below a folder here."""
-    needs("cmake")
     (tmp_path / "CMakeLists.txt").write_text(
         "cmake_minimum_required(VERSION 3.16)\nproject(p C)\nfind_package(tftp 0.1 REQUIRED)\n"
-        f"add_executable(shared {development.source})\ntarget_link_libraries(shared tftp::tftp)\n"
-        f"add_executable(static {development.source})\ntarget_link_libraries(static tftp::archive)\n")
-    run("cmake", "-S", tmp_path, "-B", tmp_path / "out", f"-Dtftp_DIR={development.libdir / 'cmake/tftp'}")
+        f"add_executable(shared {source})\ntarget_link_libraries(shared tftp::tftp)\n"
+        f"add_executable(static {source})\ntarget_link_libraries(static tftp::archive)\n")
+    run("cmake", "-S", tmp_path, "-B", tmp_path / "out", f"-Dtftp_DIR={libdir / 'cmake/tftp'}")
     run("cmake", "--build", tmp_path / "out")
-    for name in ["shared", "static"]:
+    has_gold = bool(shutil.which("ld.gold"))
+    if has_gold:
+        found = ["-I", root / "usr/include", "-L", libdir, f"-Wl,-rpath,{libdir}", "-ltftp", "-fuse-ld=gold"]
+        run("cc", source, *found, "-o", tmp_path / "out/gold")
+    for name in ["shared", "static", *["gold"] * has_gold]:
         run(tmp_path / "out" / name, status=2)
-
-
-def test_the_crate_for_rust_finds_it(development: Development) -> None:
-    needs("cargo")
-    crate = development.root / "usr/share/doc/libtftp-dev/examples/rust"
-    development.copy.run(*development.env, "cargo", "--offline", "--quiet", "test", folder=crate)
+    control = "Source: p\nMaintainer: p <p@example.org>\n\nPackage: p\nArchitecture: any\n"
+    (tmp_path / "debian/control").write_text(control)
+    copy.run("dpkg-deb", "-e", copy.packages()["libtftp1"], root / "DEBIAN")
+    assert "libtftp1 (>= 0.1.0)" in run("dpkg-shlibdeps", "-O", "-eout/shared", "-Sdebian/libtftp1", cwd=tmp_path)
 
 
 # ---- the packages in a chroot
 
 BASE = ["coreutils", "dash", "gcc", "libc6-dev", "pkgconf", "valgrind", "g++", "python3", "golang-go"]
 # each language with the command that it needs, and how its example is built there
-LANGUAGES = {
+LANGUAGES: dict[str, Any] = {
     "C, sanitized": ("gcc", partial(in_c, compiler="gcc", checker="sanitized")),
     "C, valgrind": ("valgrind", partial(in_c, compiler="gcc", checker="valgrind")),
-    "C++": ("g++", partial(in_cpp, compiler="g++")), "Go": ("go", in_go), "Python": ("python3", partial(in_python, checker="valgrind")),
+    "C++": ("g++", partial(in_cpp, compiler="g++")), "Go": ("go", in_go),
+    "Python": ("python3", partial(in_python, checker="valgrind")),
     "Rust": ("cargo", lambda place: in_rust(place, "sanitized" if rust_has_sanitizer() else "valgrind")),
 }
 
@@ -295,33 +243,10 @@ def inside(copy: Copy, tmp_path_factory: pytest.TempPathFactory) -> Iterator[Ins
     root = tmp_path_factory.mktemp("chroot")
     if why := is_possible(root):
         pytest.skip(why)
-    for package in ["libtftp1", "libtftp-dev"]:
-        copy.unpacked(package, root)
-    furnish(root, BASE, bool(shutil.which("cargo")))
+    furnish(copy.libraries(root), BASE, bool(shutil.which("cargo")))
     yield Inside(root)
     # (it is large)
     shutil.rmtree(root)
-
-
-def at_serve(scene: Any, built: Built, server: Built, lossy: bool) -> None:
-    """The clients of a language get, put and, at a good network, are refused, at the server in C."""
-    at, process = transfers.serves(scene, server)
-    site, way = transfers.Site("serve", scene, at, lossy), at.word.split(":")
-
-    def is_read_back(_: Any, name: str, length: int, what: str) -> None:
-        """What the server has under this name is what was put: a client in C gets it."""
-        run(*server.command("get", *way, name, f"{name}.read", 0), cwd=scene.folder)
-        expect((scene.folder / f"{name}.read").read_bytes(), transfers.content(length), f"what {what} put of {length} bytes")
-
-    clients = [it for it in built.words if it.startswith(("get", "put"))]
-    # (what runs under valgrind, as an interpreter, takes long to begin: it transfers the longer file alone)
-    jobs = [partial(transfers.transfers, site, built, it, 10 * place, length, [0, 1428][place],
-                    is_read_back if it.startswith("put") else None)
-            for place, length in enumerate(transfers.FEW) for it in clients if place or not built.is_slow]
-    jobs += [partial(transfers.refused, site, built, it) for it in clients if it.startswith("get") and not lossy]
-    transfers.together(jobs)
-    process.terminate()
-    process.wait()
 
 
 @pytest.mark.timeout(1_200)
@@ -329,10 +254,8 @@ def at_serve(scene: Any, built: Built, server: Built, lossy: bool) -> None:
 def test_in_a_chroot(language: str, inside: Inside) -> None:
     command, make = LANGUAGES[language]
     needs(command)
-    # (the scenes are below the folder, where programs in it read and write)
-    server = in_c(inside, "gcc", "sanitized")
-    built = server if language == "C, sanitized" else make(inside)
-    room = inside.outside(re.sub(r"\W+", "-", language))
+    built, room = make(inside), inside.outside(re.sub(r"\W+", "-", language))
     room.mkdir()
-    transfers.tried([(f"a {network} network", partial(at_serve, built=built, server=server, lossy=network == "bad"))
-                     for network in ["bad", "good"]], {}, room)
+    # (the scenes are below the folder, where programs in it read and write)
+    transfers.tried([(f"a {'bad' if lossy else 'good'} network", partial(transfers.by_tftpd, built=built, lossy=lossy))
+                     for lossy in (True, False)], programs(["tftp", "tftpd"]), room)

@@ -1,10 +1,7 @@
-"""Builds the programs and the library from the archive of assembly, as who has a C compiler alone. The archive is
-packed twice, which has to give the same bytes; it says what it is built from; and the calls which the programs make
-by names of the toolchain are those of os.c, no more and no fewer. It is unpacked in a folder of this host's packages
-of gcc, make, musl and a shell, which has no part of this repository and not the toolchain. With that folder as the
-root, `make check` and `make install` run with gcc, and again with musl-gcc and STATIC=1, and the tests of the
-programs run over what they built. The half for ARM64 is built by the cross compiler, statically, and its `make check`
-run by qemu-aarch64."""
+"""Builds the programs and the library from the archive of assembly, as who has a C compiler alone: in a folder of this
+host's packages of gcc, make, musl and a shell, which has no part of this repository and not the toolchain. `make
+check` and `make install` run there with gcc, and with musl-gcc and STATIC=1, and the tests of the programs run over
+what they built; the half for ARM64 is built by the cross compiler, and its `make check` run by qemu-aarch64."""
 import shutil
 from pathlib import Path
 from typing import Iterator
@@ -14,14 +11,12 @@ import pytest
 from lib.chroot import ROOM, Inside, furnish, is_possible
 from lib.needs import needs
 from lib.programs import NAMES, TOP
-from ported import COMPILER, EMULATOR, TESTS, VERSION, run, run_over
+from ported import BUILDS, COMPILER, EMULATOR, TESTS, VERSION, run, run_over
 
-# programs and an archive are built behind the first test that takes them
-pytestmark = pytest.mark.timeout(3_000)
+pytestmark = BUILDS
 
-PACKAGES = ["coreutils", "dash", "gcc", "libc6-dev", "make", "musl-tools", "sed", "grep", "diffutils", "tar", "xz-utils"]
-# the processors, and what the nm of their objects is
-PROCESSORS = {"amd64": "nm", "arm64": "aarch64-linux-gnu-nm"}
+PACKAGES = "coreutils dash gcc libc6-dev make musl-tools sed grep diffutils tar xz-utils".split()
+PROCESSORS = ["amd64", "arm64"]
 # the words of make by the compiler
 WORDS = {"gcc": ["CC=gcc"], "musl-gcc": ["CC=musl-gcc", "STATIC=1"]}
 
@@ -31,7 +26,7 @@ def archive() -> Path:
     needs("xz", "git", "gcc")
     for arch in PROCESSORS:
         run(TOP / "tools/modules.py", arch)
-    first, second = [(TOP / run(TOP / "tools/assembly.sh", VERSION).strip()).read_bytes() for _ in range(2)]
+    first, second = [(TOP / run(TOP / "tools/archive.sh", "assembly", VERSION).strip()).read_bytes() for _ in range(2)]
     assert first == second, "the archive has other bytes when it is made again"
     return TOP / f"out/fanjuvery-{VERSION}-assembly.tar.xz"
 
@@ -56,21 +51,6 @@ def inside(archive: Path, tmp_path_factory: pytest.TempPathFactory) -> Iterator[
     shutil.rmtree(root)
 
 
-def symbols(nm: str, path: Path, kind: str) -> set[str]:
-    """The names of the toolchain that an object names, or defines."""
-    return {name for name in run(nm, f"--{kind}-only", "--format=just-symbols", path).split() if name.startswith("rattle_")}
-
-
-@pytest.mark.parametrize("arch", PROCESSORS)
-def test_names_are_those_of_os_c(arch: str, unpacked: Path) -> None:
-    nm = PROCESSORS[arch]
-    needs(nm)
-    objects = {name: unpacked / f"{arch}-{name}.o" for name in [*NAMES, "os"]}
-    for name, path in objects.items():
-        run(nm.replace("nm", "gcc"), "-c", "-o", path, unpacked / ("c/os.c" if name == "os" else f"{arch}/{name}.s"))
-    assert set[str]().union(*(symbols(nm, objects[name], "undefined") for name in NAMES)) == symbols(nm, objects["os"], "defined")
-
-
 def test_what_it_says(unpacked: Path) -> None:
     text, commit = (unpacked / "BUILT-FROM").read_text(), run("git", "rev-parse", "HEAD").strip()
     verdicts = [f"{arch}/{name}.s logic=proved " for arch in PROCESSORS for name in [*NAMES, "libtftp"]]
@@ -78,7 +58,6 @@ def test_what_it_says(unpacked: Path) -> None:
     assert len((unpacked / "Makefile").read_text().splitlines()) < 60
 
 
-@pytest.mark.timeout(3_000)
 @pytest.mark.parametrize("compiler", WORDS)
 def test_built_without_the_toolchain(compiler: str, inside: Inside) -> None:
     needs(compiler)

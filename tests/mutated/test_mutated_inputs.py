@@ -7,7 +7,6 @@ after one wait."""
 import os
 import re
 import subprocess
-from functools import lru_cache
 from pathlib import Path
 from typing import Any
 
@@ -23,8 +22,8 @@ from lib.programs import NAMES, TOP, program
 HOST = own_address()
 EXAMPLES = TOP / "examples"
 COUNT = int(os.environ.get("MUTATED_INPUTS", "250"))
-# Of a run: the kilobytes of address space, the blocks of a file, and the seconds
-MEMORY, FILE, SECONDS = 400_000, 20_000, 120
+# The limits of a run: kilobytes of address space, blocks of a file, and seconds
+LIMITS, SECONDS = 'ulimit -v 400000; ulimit -f 20000; exec "$0" "$@"', 120
 # What a program may write to standard error in its first line; a second has the cause
 REFUSALS = {
     "tftp-show": r"tftp-show: (out of memory|input unreadable|no such transfer|svg unwritable)",
@@ -32,9 +31,8 @@ REFUSALS = {
     "tftp": r"tftp: ([A-Z]\w+(\(\w+\))?|(file|socket) fault|out of memory)",
     "tftpd": r"tftpd: ((file|socket) fault|out of memory)",
 }
-USAGE = r"error: [^\0]*"
 # (these write their log, or a line more, to standard error)
-FREE = {"--log", "--verbose", "-v", "--progress"}
+FREE = {"--log", "--verbose", "--progress"}
 WORDS = {
     "tftp-show": ["--flow", "--svg", "picture", "--transfer", "1", "2", "--help", "-V", "--"],
     "tftp-play": ["read.script", "--svg", "picture", "--events", "--help", "-", "--"],
@@ -51,14 +49,6 @@ def contents(*patterns: str) -> list[bytes]:
     return [path.read_bytes() for pattern in patterns for path in sorted(EXAMPLES.glob(pattern))]
 
 
-@lru_cache(None)
-def limits() -> str:
-    """Programs that `rt try` compiles do not start with so little memory."""
-    words = ["sh", "-c", f'ulimit -v {MEMORY}; exec "$0" --version', str(program("tftp-show"))]
-    is_limited = subprocess.run(words, capture_output=True, timeout=SECONDS).returncode == 0
-    return (f"ulimit -v {MEMORY}; " if is_limited else "") + f'ulimit -f {FILE}; exec "$0" "$@"'
-
-
 @pytest.fixture(scope="module")
 def room(tmp_path_factory: pytest.TempPathFactory) -> Path:
     folder = tmp_path_factory.mktemp("mutated")
@@ -70,13 +60,12 @@ def room(tmp_path_factory: pytest.TempPathFactory) -> Path:
 
 def judged(room: Path, name: str, words: list[str], given: bytes) -> "subprocess.CompletedProcess[bytes]":
     """Runs a program, which ends as its manual says. Returns what it wrote."""
-    done = subprocess.run(["sh", "-c", limits(), str(program(name)), *words], input=given, cwd=room, capture_output=True,
+    done = subprocess.run(["sh", "-c", LIMITS, program(name), *words], input=given, cwd=room, capture_output=True,
                           timeout=SECONDS)
-    errors = done.stderr.decode("latin-1")
-    is_said = not errors if done.returncode == 0 else \
-        re.fullmatch(rf"(({REFUSALS[name]})\n({name}: (?s:.+)\n)?|{USAGE})?", errors)
+    said = rf"(({REFUSALS[name]})\n({name}: (?s:.+)\n)?|error: [^\0]*)?" if done.returncode else ""
     assert done.returncode in (0, 1, 2)
-    assert is_said or FREE & {*words} or any(word[:2] == "-v" for word in words), errors[-300:]
+    is_free = any(word in FREE or word[:2] == "-v" for word in words)
+    assert is_free or re.fullmatch(said, done.stderr.decode("latin-1")), done.stderr[-300:]
     assert "--svg" in words or not re.search(rb"[^\x20-\x7e\n]", done.stdout)
     return done
 
@@ -88,7 +77,8 @@ def test_lines_of_packets(room: Path, given: bytes) -> None:
     assert done.returncode == 2 or done.stdout.count(b"\n") == given.count(b"\n") + (given[-1:] not in (b"", b"\n"))
 
 
-@many(COUNT, mutated(contents("wire.txt", "netboot/uefi.txt")), st.sampled_from(["", "", "--svg picture", "--svg picture --transfer 2"]))
+@many(COUNT, mutated(contents("wire.txt", "netboot/uefi.txt")),
+      st.sampled_from(["", "", "--svg picture", "--svg picture --transfer 2"]))
 def test_captures(room: Path, given: bytes, words: str) -> None:
     judged(room, "tftp-show", ["--flow", *words.split()], given)
 

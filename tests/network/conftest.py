@@ -19,8 +19,10 @@ def pytest_pyfunc_call(pyfuncitem: Any) -> Optional[bool]:
     apart = [word for word in APART if word != "--map-root-user" or os.geteuid() != 0]
     if why := missing(TRIAL.format(pyfuncitem.module.KERNEL), apart):
         pytest.skip(why)
-    words = [*apart, sys.executable, "-m", "pytest", "-q", "-n0", str(pyfuncitem.path) + "::" + pyfuncitem.name]
-    done = subprocess.run(words, env={**os.environ, "TESTS_APART": "1"}, stdin=subprocess.DEVNULL, capture_output=True, text=True)
+    words = [*apart, sys.executable, "-m", "pytest", "-qs", "-n0", f"{pyfuncitem.path}::{pyfuncitem.name}"]
+    env = {**os.environ, "TESTS_APART": "1"}
+    done = subprocess.run(words, env=env, stdin=subprocess.DEVNULL, capture_output=True, text=True)
+    print(done.stdout)
     if done.returncode:
         pytest.fail(done.stdout + done.stderr, pytrace=False)
     if "SKIPPED" in done.stdout:

@@ -8,7 +8,6 @@ import re
 import select
 import signal
 import subprocess
-import tempfile
 import time
 from contextlib import ExitStack
 from pathlib import Path
@@ -18,6 +17,7 @@ import pytest
 
 from lib.ends import End, Port, ack, data, error, expect, oack, rrq, wait_until
 from lib.hosts import BLOCK, CLIENT, MANY, PATIENCE, SECOND, SERVER, Host
+from lib.process import Program
 from lib.programs import TOP, programs
 from lib.units import arguments_of
 
@@ -40,8 +40,8 @@ def block_of(part) -> str:
 class Network:
     """The three hosts, a folder to serve, and the servers that run."""
 
-    def __init__(self, tftp, tftpd, stack) -> None:
-        self.tftp, self.tftpd, self.stack, self.servers = tftp, tftpd, stack, []
+    def __init__(self, stack) -> None:
+        (self.tftp, self.tftpd), self.stack, self.servers = programs(["tftp", "tftpd"]).values(), stack, []
         self.client, self.router, self.server = (Host(stack) for _ in range(3))
         self.client.link(self.router, "inner")
         self.router.link(self.server, "outer")
@@ -58,48 +58,38 @@ class Network:
         self.content = os.urandom(12 * BLOCK + 7)
         (self.root / "a").write_bytes(self.content)
 
-    # ---- servers
-
-    def serve(self, words) -> None:
+    def serve(self, *words) -> None:
         """Starts a server at the server's host, and waits until it listens."""
-        log = tempfile.TemporaryFile("w+")
-        process = subprocess.Popen(self.server.words(self.tftpd, *words), stdout=subprocess.PIPE, stderr=log)
-        self.stack.callback(process.kill)
-        self.servers.append((process, log))
-        expect(process.stdout.readline()[:10], b"listening ", f"the first word of the server {words}")
+        self.servers.append(self.stack.enter_context(Program(self.server.words(self.tftpd, *words), self.root, 3_600)))
+        expect(self.servers[-1].first_line()[:10], "listening ", f"the first word of the server {words}")
 
     def serve_root(self, port, *words) -> None:
         """Serves the folder at a port of the first address."""
-        self.serve([self.root, "--listen", f"{SERVER}:{port}", "--forever", *words])
+        self.serve(self.root, "--listen", f"{SERVER}:{port}", "--forever", *words)
 
-    def logged(self) -> list[bytes]:
-        """The logs so far. (A server writes at the place of its file, which a seek would move.)"""
-        return [os.pread(log.fileno(), 1 << 20, 0) for _, log in self.servers]
+    def count(self, word) -> int:
+        """How many lines of the logs so far begin with this word."""
+        for server in self.servers:
+            server.take()
+        return sum(server.text(server.process.stderr).count(f"\n{word} ") for server in self.servers)
 
-    def stop(self) -> list[str]:
+    def stop(self) -> list[list[str]]:
         """Stops the servers. Returns their logs."""
-        logs = []
-        for process, log in self.servers:
-            process.send_signal(signal.SIGTERM)
-            expect(process.wait(PATIENCE), -signal.SIGTERM, "the status of a server that was stopped")
-            process.stdout.close()
-            log.seek(0)
-            logs.append(log.read().splitlines())
-            log.close()
-        self.servers = []
-        return logs
-
-    # ---- clients
+        for server in self.servers:
+            server.signal(signal.SIGTERM)
+        ended, self.servers = [server.ended() for server in self.servers], []
+        expect({status for status, _, _ in ended} <= {-signal.SIGTERM}, True, f"how {ended} ended")
+        return [errors.splitlines() for _, _, errors in ended]
 
     def transfers(self, *words, host=None) -> "subprocess.CompletedProcess[str]":
         """What a client says, of the client's host if none is given."""
         command = (host or self.client).words(self.tftp, *words)
         return subprocess.run(command, capture_output=True, text=True, timeout=PATIENCE)
 
-    def received(self, address, port, options) -> bytes:
+    def received(self, address, port, retries) -> bytes:
         """What the client gets of the file from there, or nothing."""
-        local = self.root / "local"
-        done = self.transfers("get", f"{address}:{port}", "a", local, "--blksize", f"{BLOCK}", "--no-dally", *options)
+        local, words = self.root / "local", ["--blksize", BLOCK, "--no-dally", "--retries", retries]
+        done = self.transfers("get", f"{address}:{port}", "a", local, *words)
         content = local.read_bytes() if local.exists() else b""
         for left in [local, self.root / "local.part"]:
             left.unlink(missing_ok=True)
@@ -109,9 +99,8 @@ class Network:
     def is_served(self, is_served=True, port=69, address=SERVER, content=None) -> None:
         """Whether the client gets the file, or another one, from this port. It asks once where it is to get
         nothing."""
-        found = self.received(address, port, ["--retries", "10" if is_served else "0"])
-        expect(found == (content or self.content), is_served, f"whether {address}:{port} is served")
-        expect(bool(found), is_served, f"whether {address}:{port} serves anything")
+        found = self.received(address, port, 10 if is_served else 0)
+        expect(found, (content or self.content) if is_served else b"", f"what {address}:{port} serves")
 
     def ports(self, *addresses, number=0) -> list[Port]:
         """Ports of the client's host."""
@@ -125,18 +114,16 @@ class Network:
 def answered(ports, wanted) -> tuple[int, int]:
     """Sends a request from each port, and waits until so many are answered, and some time for one more. Returns how
     many are, and how many seconds the sending took."""
-    begun, found = time.monotonic(), set[Port]()
+    begun, waiting = time.monotonic(), {port.socket: port for port in ports}
     for port in ports:
         port.send(rrq("a", **ASKED), (SERVER, 69))
     seconds, until = int(time.monotonic() - begun), time.monotonic() + PATIENCE
-    while time.monotonic() < until and len(found) < len(ports):
-        waiting = {port.socket: port for port in ports if port not in found}
+    while time.monotonic() < until and waiting:
         for ready in select.select([*waiting], [], [], 0.1)[0]:
-            _, peer = waiting[ready].receive()
-            waiting[ready].send(error(0, ""), peer)
-            found.add(waiting[ready])
-            until = time.monotonic() + SILENCE if len(found) == wanted else until
-    return len(found), seconds
+            port = waiting.pop(ready)
+            port.send(error(0, ""), port.receive()[1])
+            until = time.monotonic() + SILENCE if len(ports) - len(waiting) == wanted else until
+    return len(ports) - len(waiting), seconds
 
 
 def chatter(port) -> int:
@@ -156,18 +143,19 @@ def network() -> Iterator[Network]:
         yield None
         return
     with ExitStack() as stack:
-        found = programs(["tftp", "tftpd"])
-        yield Network(found["tftp"], found["tftpd"], stack)
+        made = Network(stack)
+        yield made
+        made.stop()
 
 
 def test_unit(network) -> None:
     """The unit's own command line serves port 69, and refuses writes."""
-    network.serve(arguments_of("tftpd.service"))
+    network.serve(*arguments_of("tftpd.service"))
     network.is_served()
     done = network.transfers("put", f"{SERVER}:69", __file__, "new", "--retries", "10")
     expect(done.stderr, "tftp: PeerError(2)\ntftp: the server says: access violation\n", "the answer to a write")
-    # (the line may come after the answer)
-    wait_until(lambda: b"\nrefused " in network.logged()[0], "a line of a refused request")
+    # (it may come after the answer)
+    wait_until(lambda: network.count("refused"), "a line of a refused request")
     # (where the host is slow a client asks again, which is ignored, or refused again in the same words)
     lines = [line for line in dict.fromkeys(network.stop()[0]) if not line.startswith("ignored ")]
     expect([line.split()[0] for line in lines], ["listening", "opened", "closed", "refused"], "the lines of the log")
@@ -184,7 +172,7 @@ def test_redirection(network) -> None:
     network.is_served(False, address=SECOND)
     (network.root / "second").mkdir()
     (network.root / "second/a").write_bytes(network.content[::-1])
-    network.serve([network.root / "second", "--listen", f"{SECOND}:6969", "--forever"])
+    network.serve(network.root / "second", "--listen", f"{SECOND}:6969", "--forever")
     network.server.rules(rules + rules.splitlines()[-1].replace(SERVER, SECOND))
     network.is_served(address=SECOND, content=network.content[::-1])
     network.is_served()
@@ -221,7 +209,6 @@ def test_translation(network) -> None:
         host.rules(rules + help_)
         network.is_served()
         host.rules("")
-    network.stop()
 
 
 def test_limit(network) -> None:
@@ -235,14 +222,13 @@ def test_limit(network) -> None:
     expect(answered(network.ports(MANY[0]), 1)[0], 1, "whether another address is answered")
     for number, count in [(1024, 10), (19, 0)]:
         expect(chatter(*network.ports(MANY[1], number=number)), count, f"how many answers port {number} gets")
-    network.stop()
 
 
 def test_many(network) -> None:
     """Eight servers by the command line of their unit, and 200 clients at once, each of which asks twice: none is
     refused or opened twice, each file is whole, and each server has some of them."""
     for port in range(6901, 6909):
-        network.serve([it.replace("%i", str(port)) for it in arguments_of("tftpd@.service")])
+        network.serve(*(it.replace("%i", str(port)) for it in arguments_of("tftpd@.service")))
     network.server.rules((TOP / "packaging/tftpd.nft").read_text())
     ports = network.ports(*MANY)
     for port in ports * 2:
@@ -255,7 +241,7 @@ def test_many(network) -> None:
             end.is_answered(ack(number), data(number + 1, network.content[number * BLOCK:(number + 1) * BLOCK]))
     for end in ends:
         end.send(ack(len(network.content) // BLOCK + 1))
-    wait_until(lambda: sum(text.count(b"\nclosed ") for text in network.logged()) == len(MANY), "that the transfers are closed")
+    wait_until(lambda: network.count("closed") == len(MANY), "that the transfers are closed")
     logs = network.stop()
     opened = [line.split()[2].split(":")[0] for log in logs for line in log if line.startswith("opened ")]
     expect(sorted(opened), sorted(MANY), "the clients that were opened")
@@ -266,14 +252,14 @@ def test_many(network) -> None:
 
 def both_ways(network, host, size) -> None:
     """A client of this host gets a file in blocks of this size from port 69, and puts one."""
-    content, local = os.urandom(5 * size + 7), network.root / "local"
-    (network.root / "long").write_bytes(content)
+    content, long, local, new = os.urandom(5 * size + 7), *(network.root / name for name in ["long", "local", "new"])
+    long.write_bytes(content)
     for words in [["get", f"{SERVER}:69", "long", local, "--no-dally"], ["put", f"{SERVER}:69", local, "new"]]:
         done = network.transfers(*words, "--blksize", f"{size}", "--retries", "10", host=host)
         expect((done.returncode, done.stderr), (0, ""), f"how {words[0]} in blocks of {size} ends")
-    expect([(network.root / name).read_bytes() == content for name in ["local", "new"]], [True] * 2, "whether the files are whole")
-    for name in ["local", "new", "long"]:
-        (network.root / name).unlink()
+    for path in [local, new]:
+        expect(path.read_bytes(), content, f"the file {path}")
+        path.unlink()
 
 
 def test_large_blocks(network) -> None:
@@ -281,7 +267,6 @@ def test_large_blocks(network) -> None:
     network.serve_root(69, "--max-block", "65464", "--retries", "10")
     for size in [1_432, 1_468, 1_469, 8_192]:
         both_ways(network, network.client, size)
-    network.stop()
 
 
 def test_three_routers(network) -> None:
@@ -296,7 +281,6 @@ def test_three_routers(network) -> None:
         host.run(f"ip route add 203.0.113.0/24 via 203.0.113.{4 * at + 2}")
     network.serve_root(69, "--retries", "10")
     both_ways(network, hosts[-1], BLOCK)
-    network.stop()
 
 
 # an address of each block that is of no host of the internet (RFC 1918, RFC 6598, RFC 3927), at its edges, and others
@@ -313,7 +297,6 @@ def test_private_addresses(network) -> None:
         network.client.run(f"ip address add {address}/32 dev inner")
         network.router.run(f"ip route add {address}/32 dev inner")
         expect(answered(network.ports(address), 1)[0], 1, f"whether {address} is answered")
-    network.stop()
 
 
 def test_removal(network) -> None:

@@ -1,38 +1,33 @@
-"""The model agrees with worked examples: those of RFC 1350, RFC 2347 to 2349 and RFC 764, and others by hand."""
+"""The model agrees with worked examples: those of RFC 1350, RFC 2347 to 2349 and RFC 764, and others by hand. And what
+a seed chooses does not follow what comes, or when."""
+import random
+from types import SimpleNamespace
+
 import pytest
 
-from model import (Ack, Client, Data, Error, Fault, Oack, Receiver, Refused, Request, RequestPort, Sender, ack, agrees, answer,
-                   data, decode, error, host_text, may_go_on, oack, path_of, wire_text)
+import raw
+from model import (
+    Ack, Data, Error, Fault, Oack, Receiver, Refused, Request, RequestPort, Sender, ack, answer, data, decode, error,
+    host_text, may_go_on, oack, path_of, wire_text)
 
-# datagrams as hexadecimal digits, and their packets or first faults
+# datagrams as hexadecimal digits, and their packets
 PACKETS = [
     ("00026120253d006e6574415343494900", Request("WRQ", b"a %=", b"netascii", ())),
     ("0001626f6f742e696d67006f6374657400424c4b53495a4500313432380074696d656f7574003300",
      Request("RRQ", b"boot.img", b"octet", ((b"BLKSIZE", b"1428"), (b"timeout", b"3")))),
-    ("0006610000", Oack(((b"a", b""),))),
-    ("00030001414243", Data(1, b"ABC")),
-    ("00030001", Data(1, b"")),
-    ("0004ffff", Ack(65_535)),
-    ("00050000613d20250a00", Error(0, b"a= %\n")),
-    ("0005000000", Error(0, b"")),
-    ("", Fault("Short", 0)),
-    ("00", Fault("Short", 0)),
-    ("0007", Fault("Opcode", 0)),
-    ("000300", Fault("Short", 2)),
-    ("00030000", Fault("BlockZero", 2)),
-    ("0004000100", Fault("Trailing", 4)),
+    ("0006610000", Oack(((b"a", b""),))), ("00030001414243", Data(1, b"ABC")), ("00030001", Data(1, b"")),
+    ("0004ffff", Ack(65_535)), ("00050000613d20250a00", Error(0, b"a= %\n")), ("0005000000", Error(0, b"")),
     ("000500006100", Error(0, b"a")),
-    ("00050000610062", Fault("Trailing", 6)),
-    ("0005000061", Fault("Unterminated", 4)),
-    ("0001", Fault("Unterminated", 2)),
-    ("000100", Fault("EmptyName", 2)),
-    ("000161006d61696c00", Fault("Mode", 4)),
-    ("000161006f637465740000", Fault("EmptyOption", 10)),
-    ("000161006f63746574000061", Fault("EmptyOption", 10)),
-    ("000161006f63746574006100", Fault("NoValue", 12)),
-    ("000161006f6374657400610062", Fault("Unterminated", 12)),
-    ("0006", Fault("EmptyOack", 2)),
-    ("0001" + "61" * 511, Fault("TooLong", 512)),
+]
+
+# and those with a fault, the first of which is this, behind so many bytes
+FAULTS = [
+    ("", "Short", 0), ("00", "Short", 0), ("0007", "Opcode", 0), ("000300", "Short", 2), ("00030000", "BlockZero", 2),
+    ("0004000100", "Trailing", 4), ("00050000610062", "Trailing", 6), ("0005000061", "Unterminated", 4),
+    ("0001", "Unterminated", 2), ("000100", "EmptyName", 2), ("000161006d61696c00", "Mode", 4),
+    ("000161006f637465740000", "EmptyOption", 10), ("000161006f63746574000061", "EmptyOption", 10),
+    ("000161006f63746574006100", "NoValue", 12), ("000161006f6374657400610062", "Unterminated", 12),
+    ("0006", "EmptyOack", 2), ("0001" + "61" * 511, "TooLong", 512),
 ]
 
 # netascii (RFC 764): a file and its wire text
@@ -51,15 +46,6 @@ ANSWERS = [
     ([(b"tsize", b"1001")], "WRQ", ("disk full",)),
 ]
 
-# what a client that asked for blocks of 1,428 and the length accepts
-AGREEMENTS = [
-    ([(b"blksize", b"512")], [(b"blksize", 512)]),
-    ([(b"blksize", b"1429")], ("option refused", "Refused(BadValue)")),
-    ([(b"timeout", b"3")], ("option refused", "Refused(NotAsked)")),
-    ([(b"tsize", b"1001")], ("disk full", "TooLarge")),
-    ([(b"x", b"1"), (b"tsize", b"1"), (b"tsize", b"1")], ("option refused", "Refused(Repeated)")),
-]
-
 
 def told(call, *words) -> object:
     """What a function returns, or what it refuses by."""
@@ -71,13 +57,12 @@ def told(call, *words) -> object:
 
 ROWS = [
     *((decode, [bytes.fromhex(digits)], packet) for digits, packet in PACKETS),
+    *((decode, [bytes.fromhex(digits)], Fault(kind, at)) for digits, kind, at in FAULTS),
     *((wire_text, [b"netascii", content], text) for content, text in TEXTS),
     *((host_text, [b"netascii", text], content) for content, text in TEXTS),
-    *((may_go_on, [b"netascii", text], False) for text in (b"\n", b"\ra", b"a\r\r\n")),
-    (may_go_on, [b"netascii", b"a\r"], True),
+    *((may_go_on, [text], text == b"a\r") for text in (b"\n", b"\ra", b"a\r\r\n", b"a\r")),
     *((path_of, [name], path) for name, path in NAMES),
     *((answer, [options, kind, b"octet", 600, 1_428, 1_000], expected) for options, kind, expected in ANSWERS),
-    *((agrees, [{b"blksize": 1_428, b"tsize": 0}, "RRQ", b"octet", options, 1_000], agreed) for options, agreed in AGREEMENTS),
 ]
 
 
@@ -104,8 +89,6 @@ def test_exchanges() -> None:
     assert [end.on_datagram(client, data(1, b"ABC")) for _ in range(2)] == [ack(1), ack(1)]
     assert port.files[b"n"] == b"ABC"
     assert (end.on_timeout(), end.outcome, end.on_timeout(), end.outcome) == (None, None, None, "Complete")
-    reader = Client(client, "RRQ", b"octet", {}, 5)
-    assert reader.on_datagram(stranger, data(1, b"A")) == ack(1) and reader.end.peer == stranger
 
 
 def gives_up(limit, slack, retries) -> bool:
@@ -113,7 +96,7 @@ def gives_up(limit, slack, retries) -> bool:
     client, the answer is sent some timeouts later, and as many as at first pass until that is received."""
     options = [(b"blksize", 8)]
     server = Sender("client", options, retries, bytes(20), 0, oack(options))
-    client = Receiver("server", options, retries, b"octet", lambda _: None, ack(0), True)
+    client = Receiver("server", options, retries, b"octet", lambda _: None, ack(0))
     for _ in range(limit):
         client.on_timeout()
     answer = server.on_datagram("client", ack(0))
@@ -127,3 +110,13 @@ def gives_up(limit, slack, retries) -> bool:
 def test_the_bound_of_loss_is_tight(limit, slack) -> None:
     """`2 * limit + slack` retries are enough (`an_end_outlasts_loss` of `tftp_lives`), and one fewer is not."""
     assert gives_up(limit, slack, 2 * limit + slack - 1) and not gives_up(limit, slack, 2 * limit + slack)
+
+
+def test_raw_clients_draw_in_each_step_anew() -> None:
+    """What they ask does not follow how many numbers the steps before have drawn."""
+    asked: dict[int, list[float]] = {0: [], 3: []}
+    for more, found in asked.items():
+        stand = SimpleNamespace(rng=random.Random(7), live=[], is_quiet=lambda: None)
+        stand.take, stand.ask = lambda _: stand.rng.randbytes(4 * more), lambda: found.append(stand.rng.random())
+        raw.Trial.run(stand, 5)
+    assert asked[0] == asked[3] and len(asked[0]) > 10

@@ -12,10 +12,9 @@ from multiprocessing import get_context
 from pathlib import Path
 from typing import Any, Callable
 
-import faults
-import hostile
-import lossy
 import pytest
+
+import lossy
 import raw
 from lib.process import Failure
 from lib.programs import programs
@@ -26,17 +25,18 @@ SECONDS, SEED = float(os.environ.get("SOAK_SECONDS", "30")), int(os.environ.get(
 # second
 MANY, EACH_SECOND = 300, 1
 # Servers of raw clients: with what limits each of them is started
-RAW: dict[str, dict[str, Any]] = {
-    "plain": {"retries": 3}, "small limits": {"retries": 1, "max_block": 512, "max_file": 600},
-    "few transfers": {"retries": 2, "cap": 3, "max_block": 65_464, "replaces": True},
-    "uploads": {"retries": 2, "uploads": "sub", "max_block": 8_192}, "read-only": {"retries": 2, "is_read_only": True},
-}
+RAW: list[dict[str, Any]] = [
+    {"retries": 3}, {"retries": 1, "max_block": 512, "max_file": 600},
+    {"retries": 2, "max_block": 65_464, "replaces": True}, {"retries": 2, "uploads": "sub", "max_block": 8_192},
+    {"retries": 2, "is_read_only": True},
+]
 pytestmark = pytest.mark.timeout(SECONDS + 2_000)
 
 
-def tried(run: Callable[..., "Counter[str]"], number: int, folder: Path, **limits: Any) -> "Counter[str]":
+def tried(run: Callable[..., "Counter[str]"], number: int, room: Path, **limits: Any) -> "Counter[str]":
     """The counts of a trial, which are printed."""
-    folder.mkdir(exist_ok=True)
+    folder = room / f"{number}"
+    folder.mkdir()
     try:
         counts = run(programs(["tftp", "tftpd"]), folder, random.Random(SEED * 1_000 + number), SECONDS, **limits)
     except Failure as failure:
@@ -46,8 +46,8 @@ def tried(run: Callable[..., "Counter[str]"], number: int, folder: Path, **limit
     return counts
 
 
-def raw_clients(at: int, folder: Path) -> "Counter[str]":
-    return tried(raw.run, at, folder / f"{at}", **[*RAW.values()][at])
+def raw_clients(at: int, room: Path) -> "Counter[str]":
+    return tried(raw.run, at, room, **RAW[at])
 
 
 def test_raw_clients(tmp_path) -> None:
@@ -58,10 +58,5 @@ def test_raw_clients(tmp_path) -> None:
     assert not unseen and counts["transfers"] >= EACH_SECOND * SECONDS, f"seed {SEED}: {dict(counts)}, without {unseen}"
 
 
-TRIALS = {"hostile servers": hostile.run, "hostile servers, second": hostile.run, "lossy network": lossy.run,
-          "faults of the host": faults.run}
-
-
-@pytest.mark.parametrize("name", TRIALS)
-def test_trial(name, tmp_path) -> None:
-    tried(TRIALS[name], len(RAW) + [*TRIALS].index(name), tmp_path)
+def test_lossy_network(tmp_path) -> None:
+    tried(lossy.run, len(RAW), tmp_path)

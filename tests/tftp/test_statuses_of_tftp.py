@@ -4,8 +4,8 @@ from pathlib import Path
 
 import pytest
 
-from lib.ends import TOO_LARGE as FILE_TOO_LARGE, ack, expect, wrq
-from lib.scene import RETRIES, closed_pipe, few_files
+from lib.ends import expect
+from lib.scene import RETRIES
 from lib.sections import table
 
 NOWHERE, LONG_NAME = "127.0.0.1:9", "a" * 513
@@ -26,21 +26,14 @@ def test_answers(scene, answer, options, outcome, cause) -> None:
     client.ends(1, "", f"tftp: {outcome}\ntftp: {cause.replace('ADDRESS', requests.word)}\n")
 
 
-def test_too_few_blocks_without_options(scene) -> None:
-    """As many blocks of 1,428 bytes have numbers, and not of 512: the server is told."""
-    scene.make("longer", b"")
-    os.truncate(scene.folder / "longer", 65_535 * 512)
-    client, end = scene.asks("put", ["longer", "n"], wrq("n", blksize=1428), "--blksize", "1428")
-    end.is_answered(ack(0), FILE_TOO_LARGE)
-    client.ends(1, "", f"tftp: TooLarge\ntftp: longer: {TOO_LARGE}")
-
-
 def test_an_output_takes_nothing(scene) -> None:
     """The file is there, though that cannot be said."""
     scene.make("served/a", b"ABC")
     server = scene.serve("--forever", root="served")
-    with open("/dev/full", "wb") as full, closed_pipe() as write:
-        for name, output, reason in [("one", full, "no space"), ("two", write, "broken pipe")]:
+    reader, writer = os.pipe()
+    os.close(reader)
+    with open("/dev/full", "wb") as full, open(writer, "wb") as broken:
+        for name, output, reason in [("one", full, "no space"), ("two", broken, "broken pipe")]:
             words = ["get", server.word, "a", name, "--no-dally", *RETRIES]
             scene.fails("tftp", words, f"tftp: output fault\ntftp: standard output: {reason}\n", stdout=output)
             expect(scene.content(name), b"ABC", "the file")
@@ -75,8 +68,8 @@ def test_an_unusable_local(scene, command, cause) -> None:
     words = words_of(command)
     scene.fails("tftp", words, errors)
     scene.fails("tftp", with_a_long_name(words), errors)
-    scene.fails("tftp", words, errors, preexec_fn=few_files(4))
-    scene.is_usage_fault("tftp", *words, "--blksize", "7")
+    scene.fails("tftp", words, errors, limit="-n 4")
+    scene.fails("tftp", [*words, "--blksize", "7"])
     expect(sorted(path.name for path in scene.folder.iterdir()), before, "what is there")
 
 
@@ -86,8 +79,8 @@ def test_no_socket(scene) -> None:
     for words in map(words_of, ["get SERVER a fresh", "put SERVER abc a"]):
         for each in [words, with_a_long_name(words)]:
             fault = "tftp: socket fault\ntftp: no socket: too many open files\n"
-            scene.fails("tftp", each, fault, preexec_fn=few_files(4))
-        scene.is_usage_fault("tftp", *words, "--retries", "11", preexec_fn=few_files(4))
+            scene.fails("tftp", each, fault, limit="-n 4")
+        scene.fails("tftp", [*words, "--retries", "11"], limit="-n 4")
 
 
 def test_no_request(scene) -> None:

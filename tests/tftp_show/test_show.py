@@ -23,11 +23,13 @@ INPUTS = table(HERE / "inputs.txt")
 UNREADABLE, NO_TRANSFER = "tftp-show: input unreadable\n", "tftp-show: no such transfer\n"
 # Command lines of status 2 over a capture, and how the message begins: a file has to be there, and a transfer is
 # drawn only with `--flow`
-FAULTS = [(["--verbose"], "error: "), (["a.pcap", "b.pcap"], "error: "), (["--svg", "/dev/null"], "error: "),
-          (["--flow", "--transfer", "0"], "error: "), ([b"caf\xe9"], "error: "), (["/missing/packets.hex"], UNREADABLE),
-          (["packets.hex"], UNREADABLE), (["."], UNREADABLE), (["--flow", "--svg", "a.svg", "--transfer", "2"], NO_TRANSFER),
-          (["--flow", "--svg", "a.svg", "--transfer", "65535"], NO_TRANSFER),
-          (["--flow", "--svg", "/dev/full"], "tftp-show: svg unwritable\n")]
+FAULTS: list[tuple[list[object], str]] = [
+    *((words, "error: ") for words in [["--verbose"], ["a.pcap", "b.pcap"], ["--svg", "/dev/null"],
+                                       ["--flow", "--transfer", "0"], [b"caf\xe9"]]),
+    *(([path], UNREADABLE) for path in ["/missing/packets.hex", "packets.hex", "."]),
+    *((["--flow", "--svg", "a.svg", "--transfer", number], NO_TRANSFER) for number in ["2", "65535"]),
+    (["--flow", "--svg", "/dev/full"], "tftp-show: svg unwritable\n"),
+]
 
 
 @pytest.fixture
@@ -45,21 +47,12 @@ def test_faults(show, words, errors) -> None:
     expect((status, said[:len(errors)]), (2, errors), f"{words}, which says {said}")
 
 
-def test_a_folder_is_no_input(scene) -> None:
-    folder = os.open(scene.folder, os.O_RDONLY)
-    scene.fails("tftp-show", [], UNREADABLE, stdin=folder)
-    os.close(folder)
-
-
 def test_vectors_show(show) -> None:
-    """Twenty lines, each alone and all together."""
+    """Twenty lines, each alone and all together, of which the last but three is the empty datagram."""
     row, = sections(HERE / "vectors.txt")
     show.prints(row.given, row.printed, row.status)
-    # (the last but three is the empty datagram)
-    each = list(zip(row.given.split("\n")[:-1], row.printed.splitlines()))
-    expect(len(each), 20, "the vectors")
-    for given, shown in each:
-        show.prints(f"{given}\n", f"{shown}\n", int(shown.startswith(("fault", "not hex"))))
+    for given, shown in zip(row.given.splitlines(True), row.printed.splitlines(True), strict=True):
+        show.prints(given, shown, int(shown.startswith(("fault", "not hex"))))
 
 
 @pytest.mark.parametrize("status, given, printed", INPUTS, ids=[f"{row[1][:40]!r}" for row in INPUTS])
@@ -96,15 +89,10 @@ def test_transfers_are_drawn(show, kind) -> None:
     has_parts((show.folder / "a.svg").read_text(), PICTURES[kind].parts())
 
 
-# The words of a tftp-show, its input in two parts, and what its output begins with
-INTERRUPTED = [
+@pytest.mark.parametrize("words, parts, output", [
     ([], [b"0004", b"0000\n"], "ACK 0\n"),
     (["--flow"], [b"0\t192.0.2.2\t1024\t192.0.2.1\t69\t0001", b"61006f6374657400\n"],
-     "transfer 1: 192.0.2.2:1024 reads from 192.0.2.1:69\n  asked    RRQ a octet\n"),
-]
-
-
-@pytest.mark.parametrize("words, parts, output", INTERRUPTED, ids=["packets", "a capture"])
+     "transfer 1: 192.0.2.2:1024 reads from 192.0.2.1:69\n  asked    RRQ a octet\n")], ids=["packets", "a capture"])
 def test_interrupted_reads(scene, words, parts, output) -> None:
     """A read that a signal interrupts is made again. No handler can be had from outside, but a read of a socket with
     a timeout also fails with EINTR where its process is stopped and goes on, on Linux (signal(7))."""
@@ -113,11 +101,10 @@ def test_interrupted_reads(scene, words, parts, output) -> None:
         theirs.setsockopt(socket.SOL_SOCKET, socket.SO_RCVTIMEO, struct.pack("ll", 300, 0))
         show = scene.start("tftp-show", words, stdin=theirs)
         for part in parts:
-            wait_until(lambda: state_of(show.pid) == "S", "a read that waits")
-            os.kill(show.pid, signal.SIGSTOP)
-            wait_until(lambda: state_of(show.pid) == "T", "a program that stops")
-            os.kill(show.pid, signal.SIGCONT)
-            wait_until(lambda: state_of(show.pid) in "SZ", "a read that is made again")
+            # a read that waits, a program that stops, and a read that is made again
+            for number, states in [(0, "S"), (signal.SIGSTOP, "T"), (signal.SIGCONT, "SZ")]:
+                os.kill(show.pid, number)
+                wait_until(lambda: state_of(show.pid) in states, f"one of the states {states}")
             ours.sendall(part)
         ours.shutdown(socket.SHUT_WR)
         wrote, errors = show.communicate(timeout=PATIENCE)

@@ -3,11 +3,8 @@ their files, no read of standard input, and no process that they start; and that
 runs."""
 import os
 import re
-import subprocess
 import time
-from contextlib import suppress
-from pathlib import Path
-from typing import Iterator
+from typing import Any, Iterator
 
 import pytest
 
@@ -26,7 +23,8 @@ OF_DESCRIPTORS = set("""bind close epoll_create1 epoll_ctl epoll_pwait epoll_wai
 OF_PATHS = set("""chmod faccessat faccessat2 link linkat lstat mkdir newfstatat open openat readlink readlinkat rename
     renameat renameat2 stat statfs statx symlink unlink unlinkat getcwd chdir""".split())
 # a socket that a program may open, and the path beside its files that it may
-SOCKET = re.compile(r"AF_INET, SOCK_DGRAM(?:\|SOCK_CLOEXEC|\|SOCK_NONBLOCK)*, IPPROTO_(?:IP|UDP)")
+SOCKET = re.compile(r"AF_INET, SOCK_DGRAM\|SOCK_CLOEXEC(?:\|SOCK_NONBLOCK)?, IPPROTO_(?:IP|UDP)")
+OPENINGS = ("open", "openat")
 OTHER_PATHS = ("/dev/null", "/proc/self/fd")
 # a line of the log; and where a program begins behind its loader, which strace shows
 CALL = re.compile(r"(\d+) +(\w+)\((.*)")
@@ -48,54 +46,44 @@ def idle() -> Iterator[int]:
 
 def own_calls(log) -> list[tuple[str, str]]:
     """The calls of a program by their names and words, from where it begins."""
-    lines = Path(log).read_text(errors="replace").splitlines()
-    first = max((at for at, line in enumerate(lines) if BEGINS in line), default=None)
-    expect(first is not None, True, f"whether the program begins in {len(lines)} lines of {log}")
-    found = [CALL.match(line) for line in lines[first:]]
-    return [(line[2], line[3]) for line in found if line]
+    lines = log.read_text(errors="replace").splitlines()
+    begins = [at for at, line in enumerate(lines) if BEGINS in line]
+    expect(bool(begins), True, f"whether the program begins in {len(lines)} lines of {log}")
+    return [(line[2], line[3]) for line in map(CALL.match, lines[begins[-1]:]) if line]
 
 
-def faults_of(name, words, folder) -> str:
-    """What is wrong with a call, or nothing."""
-    if name == "socket" and not SOCKET.match(words):
-        return "another socket"
-    if name not in FREE | OF_DESCRIPTORS | OF_PATHS:
-        return "a call that is not expected"
-    if name in OF_DESCRIPTORS and re.match(r"0<", words) and name not in ("fcntl", "ioctl", "newfstatat"):
-        return "standard input"
+def is_own(name, words, folder) -> bool:
+    """Whether a call is one that a program may make."""
+    if name == "socket" and not SOCKET.match(words) or name in OPENINGS and "O_CLOEXEC" not in words:
+        return False
+    if name in OF_DESCRIPTORS and words.startswith("0<"):
+        return name in ("fcntl", "ioctl", "newfstatat")
+    paths = re.findall(r'"((?:[^"\\]|\\.)*)"', words) if name in OF_PATHS else []
+    wholes = [os.path.normpath(os.path.join(folder, path)) for path in paths]
     parents = [str(folder), *map(str, folder.parents)]
-    if name in OF_PATHS:
-        for path in re.findall(r'"((?:[^"\\]|\\.)*)"', words):
-            whole = os.path.normpath(os.path.join(folder, path))
-            if not whole.startswith((f"{folder}/", *OTHER_PATHS)) and whole not in parents:
-                return f"the path {path}"
-    return ""
+    are_own = [whole in parents or whole.startswith((f"{folder}/", *OTHER_PATHS)) for whole in wholes]
+    return all(are_own) and name in FREE | OF_DESCRIPTORS | OF_PATHS
 
 
 def has_own_calls_alone(scene, log, what) -> None:
     folder = scene.folder.resolve()
-    found = ((name, words, faults_of(name, words, folder)) for name, words in own_calls(log))
-    wrong = [f"{name}({words[:100]}: {fault}" for name, words, fault in found if fault]
+    wrong = [f"{name}({words[:100]}" for name, words in own_calls(log) if not is_own(name, words, folder)]
     expect(wrong[:5], [], f"the {len(wrong)} calls of {what} that are not expected")
 
 
-def traced(scene, program, log, *words, **how) -> "subprocess.Popen[bytes]":
+def traced(scene, program, log, *words, **how) -> Any:
     """Starts a program below strace, in a session of its own."""
     command = ["-f", "-y", "-o", log, scene.programs[program], *words]
     return scene.start("strace", command, start_new_session=True, **how)
 
 
 def has_ended(process, what) -> None:
-    """It ends soon, by 0, and nothing of its session runs on."""
+    """It ends soon, by 0, and nothing of its group runs on."""
     begun = time.monotonic()
     status = process.wait(PATIENCE)
     expect((status, time.monotonic() - begun < SOON), (0, True), f"the status of {what}, and whether it comes soon")
-    running = list[str]()
-    for path in Path("/proc").glob("[0-9]*/stat"):
-        with suppress(OSError):
-            state, _, _, session = path.read_text().rsplit(")", 1)[1].split()[:4]
-            running += [str(path)] * (int(session) == process.pid and state != "Z")
-    expect(running, [], f"what {what} leaves")
+    with pytest.raises(ProcessLookupError):
+        os.killpg(process.pid, 0)
 
 
 def test_calls_of_a_server(scene, idle) -> None:

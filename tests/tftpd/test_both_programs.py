@@ -4,15 +4,10 @@ from itertools import product
 
 import pytest
 
-from lib.ends import bytes_of, expect, free_ports, is_bound, text_of
+from lib.ends import bytes_of, expect, free_ports, is_bound
 from lib.exchanges import MODES, UNHURRIED, length_on_wire
 from lib.programs import of_crate
-from lib.scene import LIFE, Server, drain_of
-
-# each test runs over two servers at one port as well
-OVER_SEVERAL = True
-
-SERVE_MEMORY = of_crate("serve_memory")
+from lib.scene import LIFE, RETRIES, Server, logs
 
 
 def test_loopback(scene) -> None:
@@ -26,21 +21,19 @@ def test_loopback(scene) -> None:
     scene.tftp("get", server.word, "a", "local").completes(3)
     exists = "tftp: file fault\ntftp: local: exists (--replace replaces it)\n"
     scene.tftp("get", server.word, "a", "local").ends(2, "", exists)
-    server.logs(server.has_closed("Complete"), [
-        r"refused 127[.\d]+:\d+ RRQ b%20c octet: ERROR 2 \(access violation\), name not allowed",
-        r"refused 127[.\d]+:\d+ RRQ b octet: ERROR 1 \(file not found\)",
-        r"refused 127[.\d]+:\d+ WRQ a octet: ERROR 6 \(file exists\)",
-        r"opened \d+ 127[.\d]+:\d+ RRQ a octet: DATA 1 3",
-        r"closed \d+ 127[.\d]+:\d+ RRQ a octet: DATA 1 3, 3 bytes, \d+ ms, \d+ sent again, Complete",
-    ])
+    log, at = server.has_closed("Complete"), r"127[.\d]+:\d+"
+    logs(log, rf"refused {at} RRQ b%20c octet: ERROR 2 \(access violation\), name not allowed",
+         rf"refused {at} RRQ b octet: ERROR 1 \(file not found\)",
+         rf"refused {at} WRQ a octet: ERROR 6 \(file exists\)",
+         rf"opened \d+ {at} RRQ a octet: DATA 1 3",
+         rf"closed \d+ {at} RRQ a octet: DATA 1 3, 3 bytes, \d+ ms, \d+ sent again, Complete")
     scene.has(a=b"ABC", local=b"ABC")
 
 
-@pytest.mark.one_server("it starts no tftpd, or by words that it is about")
 def test_a_server_over_memory(scene) -> None:
     """The example of a server whose files are in memory: its text is got, and a file is put and got."""
     scene.make("a", bytes_of(1_000))
-    server = Server(scene, scene.start(SERVE_MEMORY, [f"{scene.address}:0", "3"]))
+    server = Server(scene, scene.start(of_crate("serve_memory"), [f"{scene.address}:0", "3"]))
     scene.tftp("get", server.word, "greeting", "text").completes(24)
     scene.tftp("put", server.word, "a", "b").completes(1_000)
     scene.tftp("get", server.word, "b", "copy", "--blksize", "100").completes(1_000)
@@ -48,11 +41,11 @@ def test_a_server_over_memory(scene) -> None:
     scene.has(a=bytes_of(1_000), copy=bytes_of(1_000), text=b"This file is in memory.\n")
 
 
-# Sizes of blocks: of networks, some of whose frames have 20 bytes of VLAN tags and the like, and as boot loaders ask for
+# Sizes of blocks: of networks, some of whose frames have 20 bytes of VLAN tags and the like, and as boot loaders ask
 @pytest.mark.parametrize("size", [512, 1_428, 1_432, 1_456, 8_192, 65_464])
 def test_blocks(scene, size) -> None:
-    """Files of none, one and some blocks, of a byte less and a byte more, in both modes: those of a mode and a direction
-    arrive at once, and the log has the length of each on the wire."""
+    """Files of none, one and some blocks, of a byte less and a byte more, in both modes: those of a mode and a
+    direction arrive at once, and the log has the length of each on the wire."""
     files = {f"file{length}": bytes_of(length) for length in [0, 1, size - 1, size, size + 1, 3 * size]}
     scene.make_all(files)
     count = 4 * len(files)
@@ -62,15 +55,15 @@ def test_blocks(scene, size) -> None:
         clients = []
         for name, content in files.items():
             copy = f"{way}.{mode}.{name}"
-            words = ["--blksize", f"{size}", "--timeout", f"{UNHURRIED}", *MODES[mode], *["--no-dally"] * (way == "get")]
-            clients.append((scene.tftp(way, server.word, name, copy, *words), len(content)))
+            words = ["--blksize", f"{size}", "--timeout", f"{UNHURRIED}", *["--no-dally"] * (way == "get")]
+            clients.append((scene.tftp(way, server.word, name, copy, *words, *MODES[mode]), len(content)))
             copies[copy] = content
             request = f"RRQ {name}" if way == "get" else f"WRQ {copy}"
             lines.append(f"{request} {mode} {options}: OACK {options}, {length_on_wire(content, mode)} bytes")
         for client, length in clients:
             client.completes(length)
     log = server.has_closed(*["Complete"] * count)
-    scene.has_files({**files, **copies})
+    scene.has({**files, **copies})
     found = [re.fullmatch(r"closed \d+ \S+ (.*), \d+ ms, \d+ sent again, Complete", line) for line in log]
     expect(sorted(line[1] for line in found if line), sorted(lines), "the transfers in the log")
 
@@ -93,10 +86,9 @@ def test_the_disk_is_full(scene, limit, length) -> None:
     scene.make("local", bytes_of(length))
     server = scene.serve("--max-block", "8192", "--log", limit=limit)
     scene.tftp("put", server.word, "local", "n").fails("PeerError(3)", "the server says: disk full")
-    server.logs(server.has_closed("StoreFault"), [
-        r"opened \d+ 127[.\d]+:\d+ WRQ n octet: ACK 0",
-        r"closed \d+ 127[.\d]+:\d+ WRQ n octet: ACK 0, \d+ bytes, \d+ ms, \d+ sent again, StoreFault, file too large",
-    ])
+    logs(
+        server.has_closed("StoreFault"), r"opened \d+ 127[.\d]+:\d+ WRQ n octet: ACK 0",
+        r"closed \d+ 127[.\d]+:\d+ WRQ n octet: ACK 0, \d+ bytes, \d+ ms, \d+ sent again, StoreFault, file too large")
     scene.lacks("n")
 
 
@@ -113,7 +105,7 @@ def test_closed_streams_of_a_client(scene, number) -> None:
     said = "" if number == 1 else "complete 3\n"
     scene.tftp("get", server.word, "a", "got", "--no-dally", closed=number).ends(0, said)
     server.has_closed("Complete")
-    scene.has_files({"served/a": b"ABC", "got": b"ABC"})
+    scene.has({"served/a": b"ABC", "got": b"ABC"})
 
 
 @CLOSED
@@ -121,13 +113,11 @@ def test_closed_streams_of_a_server(scene, number) -> None:
     """The same of a server: it takes a file and gives it back."""
     scene.make_all({"local": b"ABC", "served": None})
     # what it prints may be closed, too: it has a port that the test knows, and listens once that is bound
-    word = text_of((scene.address, free_ports(1)))
-    words = ["served", "--listen", word, *scene.ending_words(["--log", "--transfers", "2"])]
+    word = f"{scene.address}:{free_ports(1)}"
+    words = ["served", "--listen", word, "--log", "--transfers", "2", *RETRIES]
     server = scene.start("tftpd", words, closed=number)
-    is_bound(word)
+    is_bound(word, server)
     scene.tftp("put", word, "local", "n").completes(3)
     scene.gets(word, "n", "got", 3)
-    if drain := drain_of(server):
-        drain.touch()
     expect(server.wait(LIFE), 0, "the status of the server")
-    scene.has_files(dict.fromkeys(["local", "served/n", "got"], b"ABC"))
+    scene.has(dict.fromkeys(["local", "served/n", "got"], b"ABC"))

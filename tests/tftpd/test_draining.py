@@ -1,45 +1,37 @@
-"""A server that drains: it takes no new request once a file is there, finishes what is open, and ends with status
-0."""
-import re
-import select
+"""A server that drains: it takes no new request once a file is there, finishes what is open, and ends with status 0;
+and a request port that another program bound, and hands over as standard input: the test itself, as systemd and inetd
+do."""
+import socket
+import subprocess
 import time
+from contextlib import ExitStack
+from typing import Any
 
 import pytest
 
-from lib.ends import PATIENCE, Port, ack, data, expect, oack, rrq
-
-# each test runs over two servers at one port as well
-OVER_SEVERAL = True
+from lib.ends import PATIENCE, STOP, ack, data, expect, free_ports, oack, rrq, wait_until
+from lib.scene import are_gone, children_of
 
 FILE, CONTENT = "drain.now", b"\7" * 512 + b"ABC"
 
 
-def has_begun(server, count) -> None:
-    """The next line of its log says that it drains, with so many transfers open; of several servers, one of each
-    does."""
-    found = [re.fullmatch(r"draining: (\d+) transfers open", server.log_line()) for _ in range(server.count)]
-    expect(sum(int(line[1]) for line in found), count, "the transfers in the lines of the drain")
-
-
 def drains(scene, server, count) -> None:
-    """The file appears, and the server drains, with so many transfers open."""
+    """The file appears, if it is not there, and the server drains, with so many transfers open."""
     expect([server.log_line().split()[0] for _ in range(count)], ["opened"] * count, "the log")
     scene.make(FILE, b"")
-    has_begun(server, count)
+    expect(server.log_line(), f"draining: {count} transfers open", "the line of the drain")
 
 
-def test_an_idle_server_drains_at_once(scene) -> None:
+@pytest.mark.parametrize("words", [["--forever"], ["--transfers", "3"]], ids=" ".join)
+def test_an_idle_server_drains_at_once(scene, words) -> None:
     """It ends within some seconds, whatever `--transfers` is, and at once where the file is there at the start."""
-    for words in [["--forever"], ["--transfers", "3"]]:
-        server = scene.serve(*words, "--log", "--drain", FILE)
-        begun = time.monotonic()
-        drains(scene, server, 0)
-        server.has_closed()
-        expect(time.monotonic() - begun < PATIENCE / 2, True, "whether it ends soon")
-        server = scene.serve(*words, "--log", "--drain", FILE)
-        has_begun(server, 0)
-        server.has_closed()
-        (scene.folder / FILE).unlink()
+    server, begun = scene.serve(*words, "--log", "--drain", FILE), time.monotonic()
+    drains(scene, server, 0)
+    server.has_closed()
+    expect(time.monotonic() - begun < PATIENCE / 2, True, "whether it ends soon")
+    server = scene.serve(*words, "--log", "--drain", FILE)
+    drains(scene, server, 0)
+    server.has_closed()
 
 
 def test_a_transfer_that_is_silent_ends_a_drain(scene) -> None:
@@ -50,17 +42,6 @@ def test_a_transfer_that_is_silent_ends_a_drain(scene) -> None:
     server.opens(rrq("a", timeout=8), oack(timeout=8))
     drains(scene, server, 1)
     server.has_closed("TimedOut")
-
-
-@pytest.mark.one_server("the end or the time of one server's loop")
-def test_a_file_that_cannot_be_looked_for_is_absent(scene) -> None:
-    """Below a folder that is missing, or below a file."""
-    scene.make("a", b"ABC")
-    for path in ["missing/drain", "a/drain"]:
-        server = scene.serve("--drain", path)
-        time.sleep(2)
-        scene.gets(server, "a", f"got of {path[0]}", 3)
-        server.has_closed("Complete")
 
 
 def test_the_next_server_answers(scene) -> None:
@@ -85,38 +66,84 @@ def test_the_next_server_answers(scene) -> None:
     server.has_closed("Complete")
 
 
-def take_answers(ports: list[Port]) -> None:
-    """Those of the ports that have an answer, the one block of the file, acknowledge it, and are asking no more."""
-    for port in select.select([port.socket for port in ports], [], [], 0.05)[0]:
-        answered = next(each for each in ports if each.socket is port)
-        answered.opened(data(1, b"ABC")).send(ack(1))
-        ports.remove(answered)
+# ---- what is handed over
+
+# What is no request port: no socket at all; or the family of one, the kind, where it is bound and connected; and the
+# reason
+UDP = socket.AF_INET, socket.SOCK_DGRAM
+OTHERS: list[tuple[Any, str]] = [
+    ({"closed": 0}, "closed"), ({}, "not a socket"), ({"stdin": subprocess.PIPE}, "not a socket"),
+    ((socket.AF_UNIX, socket.SOCK_DGRAM, "", None), "not a socket of the internet"),
+    ((socket.AF_INET6, socket.SOCK_DGRAM, ("::1", 0), None), "a socket over IPv6"),
+    ((socket.AF_INET, socket.SOCK_STREAM, ("127.0.0.1", 0), None), "a socket for streams"),
+    ((*UDP, ("127.0.0.1", 0), ("127.0.0.1", 9)), "a connected socket"),
+    ((*UDP, None, None), "a socket without a port"),
+]
 
 
-def test_requests_in_the_moment_of_a_restart(scene) -> None:
-    """64 ask once each while one server drains and the next starts: all are answered, by one or the other. The first
-    looks for the file once a second: the requests behind the file take longer than that, so that it leaves some."""
+@pytest.mark.parametrize("stdin, reason", OTHERS, ids=[reason for _, reason in OTHERS])
+def test_standard_input_is_no_request_port(scene, stdin, reason) -> None:
+    """Each reason has words of its own."""
+    fault = f"tftpd: socket fault\ntftpd: standard input: {reason}\n"
+    with ExitStack() as stack:
+        if not isinstance(stdin, dict):
+            family, kind, address, peer = stdin
+            try:
+                bound = stack.enter_context(socket.socket(family, kind))
+                if address is not None:
+                    bound.bind(address)
+            except OSError:
+                pytest.skip("this host has no such socket")
+            if peer:
+                bound.connect(peer)
+            stdin = {"stdin": bound}
+        scene.fails("tftpd", [".", "--listen", "stdin"], fault, **stdin)
+
+
+@pytest.mark.parametrize("address", ["", "0.0.0.0"], ids=["an address", "every address"])
+def test_a_socket_is_handed_over(scene, address) -> None:
+    """A get and a put. The source of an answer is the address of the socket, or the one of the system's route."""
+    scene.make("a", b"ABC")
+    expected = "127.0.0.1" if address else scene.address
+    bound = scene.port(address=address)
+    server = scene.serve_at(bound, "--transfers", "3")
+    expect(server.address, bound.address, "the address that is printed")
+    server.address = (expected, bound.address[1])
+    end = server.reads("a", port=scene.port(address=expected))
+    expect(end.peer[0], expected, "the address of the answer")
+    end.send(STOP)
+    word = f"{expected}:{bound.address[1]}"
+    scene.gets(word, "a", "got", 3)
+    scene.tftp("put", word, "got", "new").completes(3)
+    server.has_closed("PeerError(0)", "Complete", "Complete")
+    scene.has(a=b"ABC", got=b"ABC", new=b"ABC")
+
+
+def test_a_transfer_never_has_the_port_that_is_handed_over(scene) -> None:
+    """A range that has the request port has one port less."""
+    scene.make("a", b"ABC")
+    first = free_ports(2)
+    server = scene.serve_at(scene.port(first), "--ports", f"{first}:{first + 1}", "--transfers", "3")
+    for _ in range(3):
+        end = server.opens(rrq("a"), data(1, b"ABC"))
+        expect(end.peer[1], first + 1, "the port of the transfer")
+        end.send(ack(1))
+    server.has_closed(*["Complete"] * 3)
+
+
+@pytest.mark.parametrize("count", [1, 2])
+def test_a_restart_loses_no_request(scene, count) -> None:
+    """64 ask before so many servers start, and 64 after these were killed, and again: each asks once, and the next
+    answer."""
     scene.make("a", b"ABC")
     bound = scene.port()
-    server = scene.serve_at(bound, "--cap", "64", "--forever", "--log", "--drain", FILE)
-    asking, end = list[Port](), time.monotonic() + PATIENCE
-    for number in range(64):
-        if number == 20:
-            scene.make(FILE, b"")
-        asking.append(server.asked(rrq("a")))
-        time.sleep(0.04)
-        take_answers(asking)
-    while server.process.poll() is None:
-        expect(time.monotonic() < end, True, "whether the first server ends")
-        take_answers(asking)
-    expect(server.process.returncode, 0, "the status of the first server")
-    log = server.own_lines(server.process.stderr.read().decode().splitlines())
-    expect([line.split()[0] for line in log].count("draining:"), server.count, "how often it says that it drains")
-    left = len(asking)
-    expect(0 < left < 64, True, f"whether {left} requests of 64 wait for the next server")
-    (scene.folder / FILE).unlink()
-    server = scene.serve_at(bound, "--cap", "64", "--transfers", f"{left}")
-    while asking:
-        expect(time.monotonic() < end, True, f"whether the next server answers {len(asking)} more")
-        take_answers(asking)
-    server.has_closed(*["Complete"] * left)
+    clients = [[scene.port() for _ in range(64)] for _ in range(3)]
+    for ports in clients:
+        for port in ports:
+            port.send(rrq("a"), bound.address)
+        process = scene.start_several(count, "--cap", "64", listen="stdin", stdin=bound.socket)
+        for port in ports:
+            port.opened(data(1, b"ABC")).send(ack(1))
+        pids = children_of(process)
+        process.kill()
+        wait_until(lambda: are_gone([*pids, process.pid]), "servers that end")

@@ -4,62 +4,26 @@ import time
 
 import pytest
 
-from lib.ends import BUSY, FILE_NOT_FOUND, PATIENCE, PATIENT, STOP, End, ack, bytes_of, data, expect, oack, rrq
+from lib.ends import FILE_NOT_FOUND, PATIENCE, ack, bytes_of, data, expect, rrq
 from lib.units import arguments_of
 
-# each test runs over two servers at one port as well
-OVER_SEVERAL = True
 
-
-def test_limits_of_blocks_and_files(scene) -> None:
-    """A write that announces a file of the longest length is accepted; a larger block size is cut, and blocks have
-    it."""
-    scene.make("a", bytes_of(250))
-    server = scene.serve("--max-file", "1000", "--max-block", "100", "--transfers", "2")
-    put = server.writes("n", tsize=1000)
-    server.opens(rrq("a", blksize=1000, **PATIENT), oack(blksize=100, **PATIENT)).gets(bytes_of(250), 100)
-    put.send(STOP)
-    expect(sorted(line.split()[-1] for line in server.ended()[1]), ["Complete", "PeerError(0)"], "how both ended")
-
-
-@pytest.mark.one_server("the slots of one server")
-def test_cap(scene) -> None:
-    """With `--cap 64` there are 64 transfers at once, and no more."""
-    scene.make("a", b"ABC")
-    server = scene.serve("--cap", "64", "--transfers", "64")
-    ends = [server.reads("a") for _ in range(64)]
-    server.refuses(rrq("a", **PATIENT), BUSY)
-    for end in ends:
-        end.gets(b"ABC")
-    server.has_closed(*["Complete"] * 64)
-
-
-# How long a client waits before it acknowledges a block, at a timeout of a second
-DRIP = 0.8
-
-
-@pytest.mark.one_server("the slots of one server")
 def test_longest(scene) -> None:
-    """With `--longest 3` its transfer times out, whatever it sends from then on, and another gets the slot."""
-    scene.make("a", bytes_of(512 * 200))
-    server = scene.serve("--cap", "1", "--retries", "3", "--longest", "3", "--transfers", "2")
-    end, newest, began = server.opens(rrq("a"), data(1, bytes_of(512))), 1, time.monotonic()
-    other, answer = scene.port(), BUSY
-    while answer == BUSY:
-        expect(time.monotonic() < began + PATIENCE, True, f"whether the transfer is closed within {PATIENCE} seconds")
-        time.sleep(DRIP)
+    """With `--longest 3` a transfer times out, though its client acknowledges each block."""
+    scene.make("a", bytes_of(512 * 1_000))
+    server, begun, newest = scene.serve("--retries", "3", "--longest", "3"), time.monotonic(), 1
+    end = server.opens(rrq("a"), data(1, bytes_of(512)))
+    while server.process.poll() is None:
+        expect(time.monotonic() < begun + PATIENCE, True, f"whether it is closed within {PATIENCE} seconds")
         end.send(ack(newest))
-        answer, sender = server.asked(rrq("a"), other).receive()
+        time.sleep(0.3)
         newest = max([newest, *(int.from_bytes(datagram[2:4], "big") for datagram, _ in end.port.waiting())])
-    lasted = time.monotonic() - began
-    expect((lasted > 3, 1 < newest < 200), (True, True), f"whether {newest} blocks in {lasted:.1f} s are some")
-    End(other, sender).send(STOP)
-    server.has_closed("TimedOut", "PeerError(0)")
+    expect((time.monotonic() - begun > 3, newest > 3), (True, True), f"whether it lasted, up to block {newest}")
+    server.has_closed("TimedOut")
 
 
 def test_signals(scene) -> None:
     """TERM, INT, HUP, USR1 and USR2 end the server at once; that a terminal has another size does not."""
-    scene.make("a", b"ABC")
     for number in [signal.SIGTERM, signal.SIGINT, signal.SIGHUP, signal.SIGUSR1, signal.SIGUSR2]:
         server = scene.serve("--forever")
         for harmless in [signal.SIGWINCH, signal.SIGCONT, signal.SIGURG]:

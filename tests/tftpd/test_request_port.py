@@ -2,49 +2,41 @@
 `--requests-only` what begins neither as RRQ nor as WRQ is dropped, for clients whose session goes wrong without
 that."""
 import re
-import shutil
-import subprocess
-from typing import Optional
-
-import pytest
 
 from lib import requests
-from lib.ends import (
-    FILE_NOT_FOUND, ILLEGAL, PATIENCE, PATIENT, STOP, End, Port, ack, data, error, expect, oack, rrq, wrq)
+from lib.ends import FILE_NOT_FOUND, ILLEGAL, End, ack, data, error, expect, oack, rrq
 from lib.scene import Server
-
-# each test runs over two servers at one port as well
-OVER_SEVERAL = True
 
 CONTENTS = {"a": b"ABC", "d/b": b"XY", "empty": b"", "long": b"a" * requests.LONG}
 
 
 def served(scene, cap=64) -> Server:
     """A server of the files that the rows speak of."""
-    for name, content in CONTENTS.items():
-        scene.make(f"served/{name}", content)
+    scene.make_all({f"served/{name}": content for name, content in CONTENTS.items()})
     return scene.serve("--cap", f"{cap}", "--forever", root="served")
 
 
-def datagram_of(answer: str, content: bytes) -> Optional[bytes]:
-    """The bytes of an answer by its line: of a DATA those of the file's first block."""
-    words = answer.split()
-    if not words:
-        return None
-    if words[0] == "ERROR":
-        return error(int(words[1]), re.findall(r"\((.*)\)", answer)[0])
-    if words[0] == "OACK":
-        return oack(**dict(word.split("=") for word in words[1:]))
-    return ack(int(words[1])) if words[0] == "ACK" else data(int(words[1]), content)
+def datagram_of(answer: str, content: bytes) -> bytes:
+    """The bytes of an answer by its line: of a DATA those of the file's first block; nothing where none is to come."""
+    match answer.split():
+        case ["ERROR", code, *_]:
+            return error(int(code), re.findall(r"\((.*)\)", answer)[0])
+        case ["OACK", *options]:
+            return oack(**dict(option.split("=") for option in options))
+        case ["ACK", number]:
+            return ack(int(number))
+        case ["DATA", number, _]:
+            return data(int(number), content)
+    return b""
 
 
-def answers(server, port: Port, row: tuple[str, bytes, str]) -> None:
+def answers(server, port, row: tuple[str, bytes, str]) -> None:
     """The server answers a datagram of this port by these bytes, or not at all."""
     what, datagram, line = row
     name = datagram[2:].split(b"\0")[0].decode(errors="replace").lstrip("/")
     expected = datagram_of(line, CONTENTS.get(name, b""))
     port.send(datagram, server.address)
-    if expected is None:
+    if not expected:
         # (what is answered stands behind it)
         expected = ILLEGAL
         port.send(b"\0\7", server.address)
@@ -65,7 +57,6 @@ def test_option_rows(scene) -> None:
         answers(server, scene.port(), row)
 
 
-@pytest.mark.one_server("another server would open a second transfer")
 def test_repeat_rows(scene) -> None:
     """The requests of one client; and then those to a server that is full."""
     server, port = served(scene), scene.port()
@@ -88,10 +79,10 @@ MALFORMED = [b"\0\1", b"\0\2", b"\0\1a", b"\0\2a\0", b"\0\1a\0octet"]
 
 
 def test_what_is_no_request_is_dropped(scene) -> None:
-    """It gets no answer, and the log has a line for it; a malformed request is answered by ERROR 4 as ever, and so is
-    what is no request and no ERROR without the option."""
-    server = scene.serve("--requests-only", "--log")
-    port = scene.port()
+    """It gets no answer, and the log has a line for it: the next answer that comes to the client is that to its next
+    request. A malformed request is answered by ERROR 4 as ever, and so is what is no request and no ERROR without the
+    option."""
+    server, port = scene.serve("--requests-only", "--log"), scene.port()
     for noise in NOISE:
         port.send(noise, server.address)
         End(port, server.address).is_answered(rrq("none"), FILE_NOT_FOUND)
@@ -105,50 +96,3 @@ def test_what_is_no_request_is_dropped(scene) -> None:
     for noise in NOISE:
         if noise[:2] != b"\0\5":
             server.refuses(noise, ILLEGAL)
-
-
-def test_a_client_acknowledges_an_error_at_the_request_port(scene) -> None:
-    """The next answer that comes to the client is that to its next request, of a read and of a write."""
-    scene.make("a", b"ABC")
-    server = scene.serve("--requests-only", "--transfers", "2")
-    port = scene.port()
-    for packet in [rrq("a", **PATIENT), wrq("n", **PATIENT)]:
-        for _ in range(3):
-            End(port, server.address).is_answered(rrq("none"), FILE_NOT_FOUND)
-            port.send(ack(1), server.address)
-        server.opens(packet, oack(**PATIENT), port).send(STOP)
-    scene.lacks("n")
-
-
-def run_client(words, script, **how) -> str:
-    """What another client says that is given a script."""
-    done = subprocess.run(words, input=script, capture_output=True, text=True, timeout=PATIENCE, **how)
-    return done.stdout + done.stderr
-
-
-def other_clients() -> dict[str, str]:
-    """The path of each client that acknowledges ERRORs and is installed, by its name."""
-    found: dict[str, str] = {}
-    paths = [shutil.which(name) for name in ["tftp", "tftp-hpa", "inetutils-tftp", "gtftp"]]
-    for path in [path for path in paths if path]:
-        for word in ["-V", "--version"]:
-            said = run_client([path, word], "")
-            found.update({kind: path for kind in ["tftp-hpa", "GNU inetutils"] if kind in said})
-    return found
-
-
-def test_sessions_of_other_clients(scene) -> None:
-    """After a get of a missing file the next gets of the same session succeed. Either client is enough."""
-    texts = {"a": b"A" * 3, "b": b"B" * 1_400, "c": b"C" * 512}
-    scene.make_all({f"served/{name}": text for name, text in texts.items()})
-    clients = other_clients()
-    if not clients:
-        pytest.skip("neither tftp-hpa nor GNU inetutils is installed")
-    for kind, path in clients.items():
-        server = scene.serve("--requests-only", "--transfers", "3", root="served")
-        local = scene.folder / kind
-        local.mkdir()
-        script = "binary\nget none\nget a\nget none\nget none\nget b\nget c\nquit\n"
-        said = run_client([path, *map(str, server.address)], script, cwd=local)
-        found = {name: (local / name).read_bytes() if (local / name).exists() else None for name in texts}
-        expect(found, texts, f"what a session of {kind} has fetched, which says {said}")

@@ -2,35 +2,27 @@
 be."""
 import os
 import re
-import stat
-import threading
 import time
 from itertools import product
-from pathlib import Path
-from typing import Optional
 
-from lib.ends import PATIENT, ack, data, expect, oack, rrq, wait_until, wrq
+import pytest
+
+from lib.ends import ack, data, expect, oack, rrq, wait_until, wrq
 from lib.metrics import Sample, metrics, promtool_says, value
 from lib.packets import request_of
-from lib.scene import Server, unmarked, written_by
+from lib.scene import MARKED, Server, preloaded, written_by
 
 # The served folder and the file that ends a server; what is counted is beside both
 ROOT, DRAIN, STATUS = "served", "drain.now", "tftpd.prom"
 # What the log says of a close
 CLOSED = re.compile(r"closed .*, (\d+) bytes, \d+ ms, (\d+) sent again, (\w+)")
-# how old the text of a server gets at most, in seconds, with a second for its wait and more on a busy host
-LONGEST_AGE = 90
+# how many times faster the time of a server goes that is idle, and how old its text gets at most by that, in seconds,
+# with a second for its wait and more on a busy host
+QUICKER, LONGEST_AGE = 10, 90
 # how many files a server has open at most, as docs/OPERATING.md says: with 64 puts, one of which is synced or
 # --status written
 OPEN_FILES = 134
 OUTCOMES = {"Complete": "complete", "TimedOut": "timed_out", "PeerError": "peer_error"}
-
-
-def read(path) -> dict[Sample, int]:
-    """The samples of a file, which is whole."""
-    text = Path(path).read_text(encoding="ascii")
-    expect(promtool_says(text), None, "what promtool says")
-    return metrics(text)
 
 
 def serve(scene, *words, status=STATUS, **how) -> Server:
@@ -38,15 +30,13 @@ def serve(scene, *words, status=STATUS, **how) -> Server:
     return scene.serve("--forever", "--log", "--status", status, "--drain", DRAIN, *words, root=ROOT, **how)
 
 
-def first_text(scene, status=STATUS) -> dict[Sample, int]:
-    """The samples of the file once it is there."""
-    wait_until((scene.folder / status).exists, "the first text")
-    return read(scene.folder / status)
-
-
-def shows(scene, pattern) -> None:
-    """The file comes to have such a line."""
-    wait_until(lambda: re.search(rf"(?m)^{pattern}$", (scene.folder / STATUS).read_text()), f"the line {pattern}")
+def samples(scene, status=STATUS) -> dict[Sample, int]:
+    """Those of the file, once it is there, which is whole."""
+    path = scene.folder / status
+    wait_until(path.exists, "the first text")
+    text = path.read_text(encoding="ascii")
+    expect(promtool_says(text), None, "what promtool says")
+    return metrics(text)
 
 
 def drained(scene, server) -> list[str]:
@@ -78,10 +68,10 @@ def test_a_status_file_counts_as_the_log(scene) -> None:
     scene.make(f"{ROOT}/a", b"\7" * 512 + b"ABC")
     before = int(time.time())
     server = serve(scene)
-    first = first_text(scene)
-    names = ("requests", "transfers", "bytes")
-    expect([value(first, f"tftpd_{name}_total") for name in names], [0, 0, 0], "the first text")
-    expect(value(first, "tftpd_transfers_limit"), 16, "the limit")
+    first = samples(scene)
+    names = ("requests_total", "transfers_total", "bytes_total", "transfers_limit")
+    counts = [value(first, f"tftpd_{name}") for name in names]
+    expect(counts, [0, 0, 0, 16], "the first text")
     for metric in ("start", "report"):
         is_now = before - 1 <= value(first, f"tftpd_{metric}_time_seconds") <= time.time()
         expect(is_now, True, f"the time of the {metric}")
@@ -91,11 +81,10 @@ def test_a_status_file_counts_as_the_log(scene) -> None:
     for request in [rrq("missing"), wrq("a")]:
         server.asked(request).receive()
     log = drained(scene, server)
-    last = read(scene.folder / STATUS)
+    last = samples(scene)
     has_counted(last, log)
     directions = [value(last, "tftpd_transfers_total", direction=way) for way in ("read", "write")]
-    expect(directions, [2, 1], "the directions")
-    expect(value(last, "tftpd_transfers_open"), 0, "the open transfers")
+    expect((directions, value(last, "tftpd_transfers_open")), ([2, 1], 0), "the directions, and the open transfers")
     scene.lacks(f"{STATUS}~")
 
 
@@ -117,62 +106,22 @@ def test_each_sample(scene) -> None:
     the file."""
     scene.make(f"{ROOT}/a", b"a line\n" * 100)
     server = serve(scene)
-    found = first_text(scene)
+    found = samples(scene)
     for name, labels in LABELS.items():
-        samples = [dict(has) for (metric, has) in found if metric == name]
         expected = [dict(zip(labels, values)) for values in product(*labels.values())]
-        own = [{label: text for label, text in sample.items() if label in labels} for sample in samples]
+        own = [{label: text for label, text in has if label in labels} for metric, has in found if metric == name]
         expect(sorted(map(str, own)), sorted(map(str, expected)), f"the samples of {name}")
     version = written_by(scene.start("tftpd", ["--version"]))[0].strip().removeprefix("tftpd ")
     expect(value(found, "tftpd_build_info", version=version), 1, f"the version among {[*found][-1]}")
     for asked, count in [("RRQ a octet blksize=99 timeout=100 tsize=0", "0 bytes of 700"),
                          ("RRQ a netascii timeout=200", "0 bytes.*"), ("WRQ n octet timeout=250", "0 bytes.*")]:
         port = server.asked(request_of(asked))
-        transfer = port.receive()[1][1]
-        shows(scene, rf"# {transfer} {re.escape(port.word)} {asked}: .*{count}, \d+ s, \d+ sent again")
-    wait_until(lambda: value(read(scene.folder / STATUS), "tftpd_transfers_open", direction="read") == 2, "two reads")
+        line = rf"(?m)^# {port.receive()[1][1]} {re.escape(port.word)} {asked}: .*{count}, \d+ s, \d+ sent again$"
+        wait_until(lambda: re.search(line, (scene.folder / STATUS).read_text()), f"the line {line}")
+    wait_until(lambda: value(samples(scene), "tftpd_transfers_open", direction="read") == 2, "two reads")
     mask = os.umask(0)
     os.umask(mask)
     expect(f"{scene.mode_of(STATUS):o}", f"{0o666 & ~mask:o}", "the permissions of the file")
-    server.process.kill()
-
-
-def scraped(path, is_over, seen) -> Optional[str]:
-    """Reads the file again and again. Returns what was wrong once."""
-    newest: dict[Sample, int] = {}
-    while not is_over.is_set():
-        try:
-            found = metrics(path.read_text(encoding="ascii"))
-        except (OSError, ValueError) as fault:
-            return f"{type(fault).__name__}: {fault}"
-        less = [sample for sample, count in newest.items()
-                if sample[0].endswith("_total") and found.get(sample, -1) < count]
-        if less:
-            return f"counts that went down: {less}"
-        newest = found
-        seen.append(value(found, "tftpd_requests_total", answer="opened"))
-    return None
-
-
-def test_no_scrape_has_half_a_file(scene) -> None:
-    """While 64 gets run at once and the server stops."""
-    scene.make(f"{ROOT}/a", bytes(400_000))
-    server = serve(scene, "--cap", "64")
-    first_text(scene)
-    is_over, said, seen = threading.Event(), [], []
-    scraper = threading.Thread(target=lambda: said.append(scraped(scene.folder / STATUS, is_over, seen)))
-    scraper.start()
-    try:
-        gets = [scene.tftp("get", server.word, "a", f"got{number}", "--no-dally") for number in range(64)]
-        for get in gets:
-            get.completes(400_000)
-        log = drained(scene, server)
-    finally:
-        is_over.set()
-        scraper.join()
-    expect(said, [None], "what a scrape had")
-    expect(len(seen) > 100, True, f"whether {len(seen)} scrapes are many")
-    has_counted(read(scene.folder / STATUS), log)
 
 
 def test_each_of_several_servers_has_a_file(scene) -> None:
@@ -184,11 +133,11 @@ def test_each_of_several_servers_has_a_file(scene) -> None:
     log = drained(scene, server)
     found = {}
     for number in ("1", "2"):
-        own = read(scene.folder / f"tftpd.{number}.prom")
+        own = samples(scene, f"tftpd.{number}.prom")
         labels = {(dict(labels).get("server"), dict(labels).get("address")) for _, labels in own}
         expect(labels, {(number, server.word)}, "the labels")
         found.update(own)
-    has_counted(found, [unmarked(line) for line in log])
+    has_counted(found, [re.sub(MARKED, "", line) for line in log])
     scene.lacks(STATUS)
 
 
@@ -199,89 +148,57 @@ def test_a_status_file_that_cannot_be_written(scene) -> None:
     expect(server.log_line(), "tftpd: --status: not found", "what is said")
     scene.gets(server, "a", "one", 3)
     time.sleep(2.5)
-    scene.make_folder("later")
-    first_text(scene, f"later/{STATUS}")
+    scene.make("later", None)
+    samples(scene, f"later/{STATUS}")
     log = drained(scene, server)
     expect([line for line in log if "--status" in line], [], "what is said again")
-    has_counted(read(scene.folder / "later" / STATUS), log)
+    has_counted(samples(scene, f"later/{STATUS}"), log)
 
 
-def lies_at(path) -> tuple[int, int]:
-    """Which file lies at a path, and what it is."""
-    found = os.lstat(path)
-    return found.st_ino, found.st_mode
-
-
-def test_a_status_file_replaces_a_file_or_nothing(scene) -> None:
-    """A FIFO, a link and a device stay, at its path and at that of its temporary file. That is said once."""
-    scene.make_all({f"{ROOT}/a": b"ABC", "other": b"kept", "link": "other"})
-    for name in ("fifo", "draft~"):
-        os.mkfifo(scene.folder / name)
-    places = [("fifo", "fifo"), ("link", "link"), ("draft", "draft~")]
-    if os.geteuid() == 0:
-        os.mknod(scene.folder / "null", stat.S_IFCHR | 0o666, os.makedev(1, 3))
-        places.append(("null", "null"))
-    for name, place in places:
-        before = lies_at(scene.folder / place)
-        server = serve(scene, status=name)
-        expect(server.log_line(), "tftpd: --status: not a file", f"what is said of {name}")
-        scene.gets(server, "a", f"{name}.got", 3)
-        log = drained(scene, server)
-        expect([line for line in log if "--status" in line], [], "what is said again")
-        expect(lies_at(scene.folder / place), before, f"what lies at {place}")
+@pytest.mark.parametrize("make, status, place", [
+    (os.mkfifo, "kept", "kept"), (lambda path: os.symlink("other", path), "kept", "kept"),
+    (os.mkfifo, "draft", "draft~")], ids=["a FIFO", "a link", "at its temporary file"])
+def test_a_status_file_replaces_a_file_or_nothing(scene, make, status, place) -> None:
+    """What is neither stays, at its path and at that of its temporary file. That is said once."""
+    scene.make_all({f"{ROOT}/a": b"ABC", "other": b"kept"})
+    make(path := scene.folder / place)
+    before = os.lstat(path)
+    server = serve(scene, status=status)
+    expect(server.log_line(), "tftpd: --status: not a file", "what is said")
+    scene.gets(server, "a", "got", 3)
+    log, after = drained(scene, server), os.lstat(path)
+    expect([line for line in log if "--status" in line], [], "what is said again")
+    expect((after.st_ino, after.st_mode), (before.st_ino, before.st_mode), f"what lies at {place}")
     expect(scene.content("other"), b"kept", "what the link leads to")
 
 
 def test_an_idle_server_writes_its_file_each_minute(scene) -> None:
     """So it is told from one that hangs: nothing has changed but the time."""
-    scene.make_folder(ROOT)
-    serve(scene)
-    first = first_text(scene)
+    scene.make(ROOT, None)
+    serve(scene, env=preloaded(scene, "other_time.c", QUICKER=QUICKER))
+    samples(scene)
+    first = second = metrics((scene.folder / STATUS).read_text())
     began = time.monotonic()
-    while (second := read(scene.folder / STATUS)) == first and time.monotonic() < began + LONGEST_AGE:
-        time.sleep(0.1)
-    lasted = time.monotonic() - began
+    while second == first and time.monotonic() < began + LONGEST_AGE:
+        time.sleep(0.02)
+        second = metrics((scene.folder / STATUS).read_text())
+    lasted = (time.monotonic() - began) * QUICKER
     expect(LONGEST_AGE / 2 < lasted < LONGEST_AGE, True, f"whether it comes after a minute, and not {lasted:.1f} s")
     changed = {name for (name, labels), count in second.items() if first[name, labels] != count}
     expect(changed, {"tftpd_report_time_seconds"}, "what changes")
 
 
-def test_a_datagram_that_the_system_refuses_is_not_sent(scene) -> None:
-    """It does not count as one that was sent."""
-    scene.make("a", b"ABC")
-    # (the server serves the whole folder of the test)
-    place = scene.beside("prom")
-    server = scene.serve_preloaded("watch_calls.c", "--log", "--status", place, UNSENT=1)
-    wait_until(place.exists, "the first text")
-    server.asked(rrq("a", **PATIENT))
-    wait_until(lambda: value(read(place), "tftpd_datagrams_total", way="received") == 1, "the request")
-    expect(value(read(place), "tftpd_datagrams_total", way="sent"), 0, "the datagrams that were sent")
-    server.process.kill()
-
-
 def test_open_files_of_64_puts(scene) -> None:
     """They are enough for each put, its sync and the file of --status."""
-    scene.make_folder(ROOT)
+    scene.make(ROOT, None)
     server = serve(scene, "--cap", "64", limit=f"-n {OPEN_FILES}")
-    first_text(scene)
+    samples(scene)
     # (a put dallies for two of these timeouts)
     asked = {"timeout": 5}
     puts = [server.opens(wrq(f"f{number}", **asked), oack(**asked)) for number in range(64)]
-    wait_until(lambda: value(read(scene.folder / STATUS), "tftpd_transfers_open", direction="write") == 64, "64 puts")
+    wait_until(lambda: value(samples(scene), "tftpd_transfers_open", direction="write") == 64, "64 puts")
     for put in puts:
         put.is_answered(data(1, b"ABC"), ack(1))
     log = drained(scene, server)
     expect([line for line in log if "too many" in line], [], "what is said of open files")
-    has_counted(read(scene.folder / STATUS), log)
-
-
-def test_the_files_of_several_servers_and_of_drain(scene) -> None:
-    """One of them would be the file of --drain. (The first server may listen by then, and write its file.)"""
-    scene.make_folder(ROOT)
-    process = scene.start_several(2, "--status", "a.prom", "--drain", "a.2.prom", root=ROOT)
-    printed, errors = written_by(process)
-    found = (process.returncode, bool(re.fullmatch(r"(listening .*\n)?", printed)))
-    expect(found, (2, True), f"how it ends, {printed!r}")
-    is_said = "of this server it would be the file of --drain" in errors
-    expect(is_said, True, f"what is said of a server's file: {errors}")
-    expect([name for name in scene.files() if name not in ("a.1.prom", "a.1.prom~")], [], "the files")
+    has_counted(samples(scene), log)

@@ -34,20 +34,7 @@ def functions(path: str) -> dict[int, str]:
     return dict(sorted((int(place, 16), re.sub(r"::<.*", "", name)) for place, name in re.findall(GIVEN, text)))
 
 
-def wrapped(name: str, path: str, folder: Path) -> None:
-    """A script that runs a program and notes what it reaches."""
-    places, seen = functions(path), folder / f"{name}.seen"
-    (folder / f"{name}.list").write_bytes(struct.pack(f"<{len(places)}Q", *places))
-    seen.write_bytes(bytes(len(places)))
-    seen.chmod(0o666)
-    (folder / name).write_text(f"""#!/bin/sh
-export COVERAGE_OF={os.path.realpath(path)} COVERAGE_LIST={folder / name}.list COVERAGE_SEEN={seen}
-LD_PRELOAD="{compiled(folder, SOURCE)}${{LD_PRELOAD:+:$LD_PRELOAD}}" exec {path} "$@"
-""")
-    (folder / name).chmod(0o755)
-
-
-def main() -> int:
+def main() -> None:
     if sys.argv[1:2] in (["-h"], ["--help"]):
         sys.exit(__doc__)
     paths, wanted = programs(NAMES), sys.argv[1:] or NAMES
@@ -55,18 +42,26 @@ def main() -> int:
         folder = Path(room)
         folder.chmod(0o755)  # (some tests run a program as another user)
         for name, path in paths.items():
-            wrapped(name, path, folder)
+            # a script that runs the program and notes what it reaches
+            places, listed, seen = functions(path), folder / f"{name}.list", folder / f"{name}.seen"
+            listed.write_bytes(struct.pack(f"<{len(places)}Q", *places))
+            seen.write_bytes(bytes(len(places)))
+            seen.chmod(0o666)
+            (folder / name).write_text(f"""#!/bin/sh
+export COVERAGE_OF={os.path.realpath(path)} COVERAGE_LIST={listed} COVERAGE_SEEN={seen}
+LD_PRELOAD="{compiled(folder, SOURCE)}${{LD_PRELOAD:+:$LD_PRELOAD}}" exec {path} "$@"
+""")
+            (folder / name).chmod(0o755)
         folders = sorted({f"tests/{it}" for name in wanted for it in [*TESTS[name], *SHARED]})
         done = subprocess.run(["pytest-3", "-q", *folders], cwd=TOP, env={**os.environ, "TFTP_PROGRAMS": room},
                               stdin=subprocess.DEVNULL, capture_output=True, text=True, timeout=LIMIT)
         print(f"coverage: {' '.join(folders)}: {done.stdout.splitlines()[-1:]}", flush=True)
         for name in wanted:
-            there, seen = functions(paths[name]).values(), (folder / f"{name}.seen").read_bytes()
-            reached = {function for function, is_seen in zip(there, seen) if is_seen}
+            there, seen = functions(paths[name]).values(), folder / f"{name}.seen"
+            reached = {function for function, is_seen in zip(there, seen.read_bytes()) if is_seen}
             missed = sorted({*there} - reached)
             print(f"{name}: {len(reached)} of {len({*there})} functions are reached; not:", *missed, sep="\n  ")
-    return 0
 
 
 if __name__ == "__main__":
-    sys.exit(main())
+    main()

@@ -10,14 +10,14 @@ class Answerer:
     does; `answer` gives the answer to a datagram, or None for none."""
 
     def __init__(self, host: str, answer: Callable[[bytes], Optional[bytes]]) -> None:
-        self.port, self.answer = socket.socket(socket.AF_INET, socket.SOCK_DGRAM), answer
-        self.port.bind((host, 0))
-        self.word = f"{host}:{self.port.getsockname()[1]}"
-        threading.Thread(target=self.run, daemon=True).start()
+        port = socket.socket(socket.AF_INET, socket.SOCK_DGRAM)
+        port.bind((host, 0))
+        self.word = f"{host}:{port.getsockname()[1]}"
 
-    def run(self) -> None:
-        while True:
-            datagram, client = self.port.recvfrom(65_536)
-            answer = self.answer(datagram)
-            if answer is not None:
-                self.port.sendto(answer, client)
+        def run() -> None:
+            while True:
+                datagram, client = port.recvfrom(65_536)
+                if (found := answer(datagram)) is not None:
+                    port.sendto(found, client)
+
+        threading.Thread(target=run, daemon=True).start()

@@ -19,62 +19,46 @@ ENTER = 'mount -t proc proc "$0/proc" && exec chroot "$0" /usr/bin/env -C "${PWD
 
 def closure(names: Sequence[str]) -> list[str]:
     """These packages of the host and those that they depend on, as far as they are installed."""
-    known = subprocess.run(["dpkg-query", "-W", "-f", "${Package}\n", *names], capture_output=True, text=True, check=False)
-    left_out = [f"--no-{kind}" for kind in ["recommends", "suggests", "conflicts", "breaks", "replaces", "enhances"]]
-    needed = run("apt-cache", "depends", "--recurse", "--installed", *left_out, *known.stdout.split())
+    known = subprocess.run(["dpkg-query", "-W", "-f", "${Package}\n", *names], capture_output=True, text=True)
+    needed = run("apt-cache", "depends", "--recurse", "--installed", "--important", *known.stdout.split())
     return sorted({*re.findall(r"(?m)^(\w[^\s:]*)", needed)})
 
 
-def place(root: Path, path: str) -> None:
-    """A file, a link or a folder of the host at the same path of the folder: a file is linked, not copied, where it
-    may be."""
-    source, to = Path(path), root / path.lstrip("/")
-    if source.is_symlink():
-        to.parent.mkdir(parents=True, exist_ok=True)
-        if not os.path.lexists(to):
-            to.symlink_to(os.readlink(source))
-    elif source.is_dir():
-        to.mkdir(parents=True, exist_ok=True)
-    elif source.is_file() and not os.path.lexists(to):
-        to.parent.mkdir(parents=True, exist_ok=True)
-        linked(source, to)
+def place(root: Path, paths: Sequence[str]) -> None:
+    """Files, links and folders of the host at the same paths of the folder: a file is linked, not copied, where it may
+    be."""
+    there = "".join(f"{path[1:]}\n" for path in paths if os.path.lexists(path) and not os.path.lexists(root / path[1:]))
+    words = ["cpio", "--pass-through", "--make-directories", "--link", "--quiet", str(root)]
+    subprocess.run(words, input=there, cwd="/", text=True, check=True)
 
 
 def furnish(root: Path, names: Sequence[str], has_rust: bool = False) -> None:
     """These packages and what they need, devices, and a place for what is built."""
-    for name in ["bin", "sbin", "lib", "lib32", "lib64", "libx32"]:
-        (root / "usr" / name).mkdir(parents=True, exist_ok=True)
-        place(root, f"/{name}")
-    for path in run("dpkg-query", "-L", *closure(names)).splitlines():
-        if path.startswith(("/usr/", "/bin/", "/lib/", "/lib64/", "/sbin/")) and not path.startswith("/usr/share/doc/"):
-            place(root, path)
+    tops = ["bin", "sbin", "lib", "lib32", "lib64", "libx32"]
+    for path in [*(f"usr/{top}" for top in tops), "proc", "dev", "etc", "tmp", f"{ROOM}/home".lstrip("/")]:
+        (root / path).mkdir(parents=True, exist_ok=True)
+    place(root, [f"/{top}" for top in tops])
+    listed = run("dpkg-query", "-L", *closure(names)).splitlines()
+    place(root, [path for path in dict.fromkeys(listed) if re.match("/(usr|bin|lib|lib64|sbin)/(?!share/doc/)", path)])
     for name, like in [("cc", "gcc"), ("python3", "python3")]:
         if not os.path.lexists(root / "usr/bin" / name):
             (root / "usr/bin" / name).symlink_to(like)
     if has_rust:
         sysroot = Path(run("rustc", "--print", "sysroot").strip())
-        shutil.copytree(sysroot, root / "opt/rust", symlinks=True, copy_function=linked,
-                        ignore=shutil.ignore_patterns("doc", "share"))
-    for name in ["proc", "dev", "etc", "tmp", ROOM.lstrip("/"), f"{ROOM}/home".lstrip("/")]:
-        (root / name).mkdir(parents=True, exist_ok=True)
+        place(root, [str(path) for path in sysroot.rglob("*") if not {"doc", "share"} & {*path.parts}])
+        (root / "opt").mkdir(exist_ok=True)
+        (root / "opt/rust").symlink_to(sysroot)
     for name, minor in [("null", 3), ("zero", 5), ("full", 7), ("urandom", 9)]:
         os.mknod(root / "dev" / name, 0o20666, os.makedev(1, minor))
         (root / "dev" / name).chmod(0o666)
     run("ldconfig", "-r", root)
 
 
-def linked(source: Any, to: Any) -> None:
-    try:
-        os.link(source, to)
-    except OSError:
-        shutil.copy2(source, to)
-
-
 def is_possible(root: Path) -> str:
     """Why no process can enter a folder, or nothing."""
     if os.geteuid() != 0:
         return "only root may enter a chroot"
-    for program in ["apt-cache", "dpkg-query", "dpkg-deb", "ldconfig", "unshare", "gcc"]:
+    for program in ["apt-cache", "dpkg-query", "dpkg-deb", "ldconfig", "unshare", "gcc", "cpio"]:
         if not shutil.which(program, path=f"{os.environ['PATH']}:/usr/sbin:/sbin"):
             return f"no {program}"
     (root / "proc").mkdir()
@@ -108,7 +92,5 @@ class Inside:
 
     def library(self, is_shared: bool = False) -> list[str]:
         """What links a program to it, by pkg-config."""
-        if is_shared:
-            return self.run("pkg-config", "--cflags", "--libs", "tftp").split()
-        flags = self.run("pkg-config", "--cflags", "tftp").split()
-        return [*flags, self.run("pkg-config", "--variable=archive", "tftp").strip()]
+        flags = self.run("pkg-config", "--cflags", *["--libs"] * is_shared, "tftp").split()
+        return flags if is_shared else [*flags, self.run("pkg-config", "--variable=archive", "tftp").strip()]

@@ -4,14 +4,14 @@ import socket
 import struct
 import sys
 import time
+from contextlib import suppress
 from pathlib import Path
 from typing import Any, Optional
 
 from lib.packets import ack, data, error, oack, rrq, wrq
 
 # (the tests have the packets from here, too)
-__all__ = ["PATIENCE", "PATIENT", "End", "Port", "ack", "bytes_of", "data", "error", "expect", "free_ports",
-           "is_bound", "oack", "rrq", "text_of", "wait_until", "wrq"]
+__all__ = ["ack", "data", "error", "oack", "rrq", "wrq"]
 
 # The longest wait for a datagram or a line, in seconds; TESTS_PATIENCE in the environment is less, as where a fault
 # is to be noticed
@@ -21,11 +21,9 @@ PATIENT = {"timeout": 255}
 # Datagrams come with the time of the kernel, of `asm/socket.h`
 SO_TIMESTAMPNS = 35
 
-FILE_NOT_FOUND, ACCESS_VIOLATION, DISK_FULL, ILLEGAL, UNKNOWN, FILE_EXISTS = (
-    error(code, text) for code, text in enumerate([
-        "file not found", "access violation", "disk full", "illegal operation", "unknown transfer id", "file exists"], 1))
-BUSY, FILE_CHANGED, TOO_LARGE, STOP = (
-    error(0, text) for text in ["server busy", "file changed", "file too large", "stop"])
+TEXTS = ["file not found", "access violation", "disk full", "illegal operation", "unknown transfer id", "file exists"]
+FILE_NOT_FOUND, ACCESS_VIOLATION, DISK_FULL, ILLEGAL, UNKNOWN, FILE_EXISTS = map(error, range(1, 7), TEXTS)
+BUSY, FILE_CHANGED, TOO_LARGE, STOP = map(error, [0] * 4, ["server busy", "file changed", "file too large", "stop"])
 
 
 def expect(found: Any, expected: Any, what: str) -> None:
@@ -43,8 +41,7 @@ def wait_until(holds: Any, what: str) -> float:
     """Waits until a condition holds, and returns the seconds that it took."""
     begun = time.monotonic()
     while not holds():
-        if time.monotonic() > begun + PATIENCE:
-            raise AssertionError(f"{what}: not after {PATIENCE} seconds")
+        expect(time.monotonic() < begun + PATIENCE, True, f"whether it comes within {PATIENCE} seconds: {what}")
         time.sleep(0.005)
     return time.monotonic() - begun
 
@@ -54,11 +51,6 @@ def bytes_of(length: int) -> bytes:
     return (bytes(range(251)) * (length // 251 + 1))[:length]
 
 
-def text_of(address: tuple[str, int]) -> str:
-    """A socket address as a word of a command line."""
-    return f"{address[0]}:{address[1]}"
-
-
 class Port:
     """A UDP port of an address, which the system chooses for 0."""
 
@@ -66,7 +58,7 @@ class Port:
         self.socket = socket.socket(socket.AF_INET, socket.SOCK_DGRAM)
         self.socket.bind((address, number))
         self.address = self.socket.getsockname()
-        self.word = text_of(self.address)
+        self.word = f"{address}:{self.address[1]}"
 
     def close(self) -> None:
         self.socket.close()
@@ -93,11 +85,10 @@ class Port:
         """The datagrams that wait at this port, each with its sender."""
         found = []
         self.socket.setblocking(False)
-        try:
+        with suppress(BlockingIOError):
             while True:
                 found.append(self.socket.recvfrom(65_536))
-        except BlockingIOError:
-            return found
+        return found
 
     def arrived(self, patience: float = PATIENCE) -> tuple[bytes, float, tuple[str, int]]:
         """The next datagram, when it came in seconds by the clock of the kernel, and from where; of a port that is
@@ -117,16 +108,8 @@ class Port:
             time.sleep(0.02)
             return time.time() - self.arrived()[1] > 0.01
 
-        wait_until(is_noted, "whether the system notes when a datagram came")
+        wait_until(is_noted, "a system that notes when a datagram came")
         return self
-
-
-def send_from_port_0(address: str, datagram: bytes, to: tuple[str, int]) -> None:
-    """Sends a datagram that bears the source port 0, which takes a raw socket (RFC 768: no checksum is 0, too)."""
-    header = struct.pack("!HHHH", 0, to[1], 8 + len(datagram), 0)
-    with socket.socket(socket.AF_INET, socket.SOCK_RAW, socket.IPPROTO_UDP) as raw:
-        raw.bind((address, 0))
-        raw.sendto(header + datagram, (to[0], 0))
 
 
 def free_ports(count: int) -> int:
@@ -138,22 +121,20 @@ def free_ports(count: int) -> int:
     below, above = range(4_001, lowest - count, count), range(highest + 1, 65_536 - count, count)
     # where the system may choose any port, one that it seldom chooses: it takes those with the parity of its first
     # alike
-    for first in [*below, *above] or range(4_001, 65_536 - count, count):
-        if taken.isdisjoint(range(first, first + count)):
-            return first
-    raise AssertionError(f"no {count} free ports in a row")
+    places = [*below, *above] or range(4_001, 65_536 - count, count)
+    return next(first for first in places if taken.isdisjoint(range(first, first + count)))
 
 
-def is_bound(word: str, process: Any = None) -> None:
+def is_bound(word: str, process: Any) -> None:
     """Waits until a program has bound this UDP port, as long as its process runs."""
     host, port = word.split(":")
     entry = f" {int.from_bytes(socket.inet_aton(host), sys.byteorder):08X}:{int(port):04X} "
 
     def has_it() -> bool:
-        expect(process is None or process.poll() is None, True, f"whether a program that is to bind {word} runs on")
+        expect(process.poll(), None, f"the status of a program that is to bind {word}")
         return entry in Path("/proc/net/udp").read_text()
 
-    wait_until(has_it, f"whether {word} is bound")
+    wait_until(has_it, f"{word} is bound")
 
 
 class End:
@@ -177,15 +158,10 @@ class End:
         """The peer answers a datagram by this one."""
         expect(self.answer_to(datagram, expected), expected, "the answer")
 
-    def takes(self, content: bytes, size: int = 512) -> None:
-        """Acknowledges each block of a file from what opened the transfer on, and receives the next one, up to the
-        last, which is not acknowledged."""
+    def gets(self, content: bytes, size: int = 512) -> None:
+        """Acknowledges what opened the transfer, and each block of a file that it receives."""
         for number in range(len(content) // size + 1):
             self.is_answered(ack(number), data(number + 1, content[number * size:(number + 1) * size]))
-
-    def gets(self, content: bytes, size: int = 512) -> None:
-        """Receives a file, and acknowledges its last block, too."""
-        self.takes(content, size)
         self.send(ack(len(content) // size + 1))
 
     def gives(self, *blocks: bytes, first: int = 1) -> None:

@@ -2,17 +2,15 @@
 UndefinedBehaviorSanitizer, or valgrind; on this host, or in a chroot with the packages (lib/chroot.py)."""
 import re
 import shutil
-import subprocess
 import sys
+from dataclasses import dataclass, field
 from functools import partial
 from pathlib import Path
 from typing import Any, Callable, NamedTuple, Union
 
-from lib.programs import TOP
+from lib.programs import TOP, ran
 
 EXAMPLES, LAYOUT = TOP / "examples", TOP / "tests/library/layout.c"
-# The longest time of a command, in seconds
-PATIENCE = 600
 WARNINGS = ["-std=c11", "-Wall", "-Wextra", "-Wpedantic", "-Werror"]
 FLAGS = {
     "sanitized": ["-g", "-O1", "-fsanitize=address,undefined", "-fno-sanitize-recover=all"],
@@ -43,18 +41,23 @@ Word = Union[str, int, Path]
 
 def run(*command: Word, status: int = 0, **how: Any) -> str:
     """Runs a command to its end, and returns what it printed."""
-    words = [str(word) for word in command]
-    done = subprocess.run(words, stdin=subprocess.DEVNULL, capture_output=True, text=True, timeout=PATIENCE, **how)
-    if done.returncode != status:
-        raise AssertionError(f"{' '.join(words)}: status {done.returncode}: {done.stdout[-2000:]}{done.stderr[-2000:]}")
-    return str(done.stdout)
+    done = ran(*command, **how)
+    said = f"{' '.join(done.args)}: status {done.returncode}: {done.stdout[-2000:]}{done.stderr[-2000:]}"
+    assert done.returncode == status, said
+    return done.stdout
 
 
+@dataclass
 class Built:
     """Examples beside a checker: the words before those of each example, by its name."""
+    name: str
+    is_slow: bool = False
+    words: dict[str, list[str]] = field(default_factory=dict)
 
-    def __init__(self, name: str, is_slow: bool = False) -> None:
-        self.name, self.is_slow, self.words = name, is_slow, dict[str, list[str]]()
+    def both(self, language: str, make: Callable[[str], list[str]]) -> "Built":
+        """Has the client of a language, which gets and puts."""
+        self.words |= {f"{verb} in {language}": make(verb) for verb in ("get", "put")}
+        return self
 
     def has(self, example: str) -> bool:
         return example in self.words
@@ -69,9 +72,9 @@ class Host:
     examples, is_host, emulator = EXAMPLES, True, list[str]()
 
     def __init__(self, room: Path, archive: Path) -> None:
-        self.room, self.archive = room, archive
-        self.go = {"CGO_CFLAGS": f"-I{TOP / 'include'}", "CGO_LDFLAGS": f"-L{archive.parent}", "LD_LIBRARY_PATH": str(archive.parent)}
-        self.rust, self.python = {"TFTP_LIB": str(archive.parent)}, {"TFTP_LIBRARY": str(archive.with_name("libtftp.so.1"))}
+        self.room, self.archive, at = room, archive, str(archive.parent)
+        self.go = {"CGO_CFLAGS": f"-I{TOP / 'include'}", "CGO_LDFLAGS": f"-L{at}", "LD_LIBRARY_PATH": at}
+        self.rust, self.python = {"TFTP_LIB": at}, {"TFTP_LIBRARY": f"{at}/libtftp.so.1"}
 
     def path(self, name: str) -> str:
         """A path of its room, as a command has it."""
@@ -102,12 +105,6 @@ def archive(room: Path) -> Path:
     return room / "libtftp.a"
 
 
-def of_the_manual() -> str:
-    """The example of tftp(3)."""
-    shown = (TOP / "man/tftp.3").read_text().split(".Bd -literal\n")[1].split(".Ed\n")[0]
-    return shown.replace("\\e", "\\")
-
-
 def in_c(place: Any, compiler: str, checker: str) -> Built:
     """The examples in C, by this compiler."""
     before = LEAKS if checker == "valgrind" else place.emulator
@@ -122,18 +119,11 @@ def in_c(place: Any, compiler: str, checker: str) -> Built:
     for name in IN_C if place.is_host else ["get", "put", "serve"]:
         compiled(name, *(f"{place.examples}/c/{source}" for source in IN_C[name]))
     if place.is_host:
-        place.outside("manual.c").write_text(of_the_manual())
+        shown = (TOP / "man/tftp.3").read_text().split(".Bd -literal\n")[1].split(".Ed\n")[0]
+        place.outside("manual.c").write_text(shown.replace("\\e", "\\"))
         compiled("manual", place.path("manual.c"))
         compiled("layout", LAYOUT, "-Wl,--wrap=malloc,--wrap=realloc")
     return it
-
-
-def refused(*words: Word) -> str:
-    """What a compiler says of a header that it refuses, by one line."""
-    done = subprocess.run([*map(str, words), "-fsyntax-only", str(TOP / "include/tftp.h")], capture_output=True, text=True)
-    errors = [line for line in done.stderr.splitlines() if "error:" in line]
-    assert done.returncode and len(errors) == 1, f"{words}: status {done.returncode}: {done.stderr}"
-    return errors[0]
 
 
 def in_c_alone(place: Host) -> Built:
@@ -143,27 +133,25 @@ def in_c_alone(place: Host) -> Built:
     others = [["gcc", "-m32"], ["gcc", "-mx32"], *[[it] for it in ["riscv64-linux-gnu-gcc"] if shutil.which(it)]]
     for words, said in [(["gcc", "-std=c89"], "needs C99"), (["gcc", "-std=gnu90"], "needs C99"),
                         *[(words, "no other processor") for words in others]]:
-        assert said in refused(*words), words
-    listed = run("nm", "--undefined-only", "--format=just-symbols", place.archive).split()
-    defined = run("nm", "--defined-only", "--extern-only", "--format=just-symbols", place.archive).split()
+        done = ran(*words, "-fsyntax-only", TOP / "include/tftp.h")
+        errors = [line for line in done.stderr.splitlines() if "error:" in line]
+        assert done.returncode and len(errors) == 1 and said in errors[0], f"{words}: {done.stderr}"
+    listed, defined = (run("nm", f"--{kind}-only", "--format=just-symbols", place.archive).split()
+                       for kind in ["undefined", "defined"])
     assert {it for it in listed if not it.endswith(":")} - {*defined} <= OF_C
-    it = Built("C, no C library")
     program, sources = place.path("alone"), [EXAMPLES / "c/bare.c", EXAMPLES / "c/alone_machine.c"]
     place.run("gcc", *WARNINGS, *ALONE, *sources, *place.library(), "-o", program)
-    it.words["bare"] = [program]
-    return it
+    return Built("C, no C library", words={"bare": [program]})
 
 
 def in_cpp(place: Any, compiler: str) -> Built:
     """The example in C++, without exceptions in it."""
-    it, client = Built(f"C++, {compiler}"), place.path(f"client-{compiler}")
+    client = place.path(f"client-{compiler}")
     words = [compiler, "-std=c++17", *WARNINGS[1:], *FLAGS["sanitized"]]
     if place.is_host:
         place.run(*words, "-fsyntax-only", "-I", TOP / "include", TOP / "tests/library/views.cpp")
     place.run(*words, f"{place.examples}/cpp/client.cpp", *place.library(True), "-o", client)
-    for verb in ["get", "put"]:
-        it.words[f"{verb} in C++"] = place.words(client, verb)
-    return it
+    return Built(f"C++, {compiler}").both("C++", partial(place.words, client))
 
 
 def copied(place: Any, name: str) -> str:
@@ -176,16 +164,14 @@ def copied(place: Any, name: str) -> str:
 def in_go(place: Any) -> Built:
     """The package's test is run, and its client is built: Go checks each pointer that is passed, and valgrind does
     not know the stacks of Go."""
-    it, folder, client = Built("Go"), copied(place, "go"), place.path("go-client")
+    folder, client = copied(place, "go"), place.path("go-client")
     # (from 1.21 on the strictest check of pointers at run time is an experiment of the build)
     checks = "2" if re.match(r"go1\.(18|19|20)\b", run("go", "env", "GOVERSION")) else "1"
-    env = {"CGO_ENABLED": "1", "GOFLAGS": "-mod=mod", "GOPROXY": "off", "GOTOOLCHAIN": "local", "GODEBUG": f"cgocheck={checks}",
-           **place.go}
+    env = {"CGO_ENABLED": "1", "GOFLAGS": "-mod=mod", "GOPROXY": "off", "GOTOOLCHAIN": "local",
+           "GODEBUG": f"cgocheck={checks}", **place.go}
     for words in [["vet", "./..."], ["test", "./..."], ["build", "-o", client, "./cmd/client"]]:
         place.run("go", *words, at=folder, **env)
-    for verb in ["get", "put"]:
-        it.words[f"{verb} in Go"] = place.words(client, verb, **env)
-    return it
+    return Built("Go").both("Go", lambda verb: place.words(client, verb, **env))
 
 
 def in_rust(place: Any, checker: str) -> Built:
@@ -200,34 +186,30 @@ def in_rust(place: Any, checker: str) -> Built:
     if place.is_host and shutil.which("rustfmt"):
         place.run("cargo", "fmt", "--all", "--check", at=folder, **env)
     before = LOST if checker == "valgrind" else []
-    it = Built(f"Rust, {checker}", bool(before))
-    for verb in ["get", "put"]:
-        it.words[f"{verb} in Rust"] = place.words(*before, f"{folder}/target/{RUST_TARGET}/debug/examples/client", verb)
-    return it
+    client = f"{folder}/target/{RUST_TARGET}/debug/examples/client"
+    return Built(f"Rust, {checker}", bool(before)).both("Rust", partial(place.words, *before, client))
 
 
 def in_python(place: Any, checker: str) -> Built:
     """The module for Python, whose tests are run, and as a program, whose buffers are blocks of malloc, with the
     library that it loads."""
-    python, before, env = sys.executable if place.is_host else "python3", list[str](), {"PYTHONMALLOC": "malloc", **place.python}
+    env = {"PYTHONMALLOC": "malloc", **place.python}
+    python, before = sys.executable if place.is_host else "python3", list[str]()
     if checker == "sanitized":
         # (the interpreter frees not all at its end)
         env |= {"LD_PRELOAD": run("gcc", "-print-file-name=libasan.so").strip(), "ASAN_OPTIONS": "detect_leaks=0"}
     else:
         place.outside("suppressed").write_text(INTERPRETER)
         before = [*VALGRIND, f"--suppressions={place.path('suppressed')}"]
-    it = Built(f"Python, {checker}", bool(before))
     if place.is_host:
         place.run(*before, python, "-m", "unittest", "tftp_test", at=f"{place.examples}/python", **env)
-    for verb in ["get", "put"]:
-        it.words[f"{verb} in Python"] = place.words(*before, python, "-S", f"{place.examples}/python/tftp.py", verb, **env)
-    return it
+    words = [*before, python, "-S", f"{place.examples}/python/tftp.py"]
+    return Built(f"Python, {checker}", bool(before)).both("Python", lambda verb: place.words(*words, verb, **env))
 
 
 def rust_has_sanitizer() -> bool:
     """Whether the Rust compiler that is here has AddressSanitizer's runtime."""
-    root = Path(run("rustc", "--print", "sysroot").strip())
-    return any(root.glob(f"lib/rustlib/{RUST_TARGET}/lib/librustc*asan*"))
+    return any(Path(run("rustc", "--print", "sysroot").strip()).glob(f"lib/rustlib/{RUST_TARGET}/lib/librustc*asan*"))
 
 
 class Build(NamedTuple):
@@ -236,17 +218,20 @@ class Build(NamedTuple):
     make: Callable[[Any], Built]
 
 
+def checked_by(make: Callable[..., Built], *needs: str, **how: str) -> Build:
+    return Build([*needs, *["valgrind"] * (how["checker"] == "valgrind")], partial(make, **how))
+
+
 BUILDS = {
-    **{f"C, {name}, sanitized": Build([name], partial(in_c, compiler=name, checker="sanitized")) for name in ["gcc", "clang"]},
-    "C, gcc, valgrind": Build(["gcc", "valgrind"], partial(in_c, compiler="gcc", checker="valgrind")),
-    "C, musl-gcc, static": Build(["musl-gcc"], partial(in_c, compiler="musl-gcc", checker="static")),
+    **{f"C, {it}, sanitized": checked_by(in_c, it, compiler=it, checker="sanitized") for it in ["gcc", "clang"]},
+    "C, gcc, valgrind": checked_by(in_c, "gcc", compiler="gcc", checker="valgrind"),
+    "C, musl-gcc, static": checked_by(in_c, "musl-gcc", compiler="musl-gcc", checker="static"),
     "C, no C library": Build(["gcc"], in_c_alone),
-    **{f"C++, {name}": Build([name], partial(in_cpp, compiler=name)) for name in ["g++", "clang++"]},
-    **{f"Rust, {it}": Build(["cargo", *["valgrind"] * (it == "valgrind")], partial(in_rust, checker=it)) for it in ["sanitized", "valgrind"]},
+    **{f"C++, {it}": Build([it], partial(in_cpp, compiler=it)) for it in ["g++", "clang++"]},
+    **{f"Rust, {it}": checked_by(in_rust, "cargo", checker=it) for it in ["sanitized", "valgrind"]},
     # (these three load the shared library, which objcopy makes)
     "Go": Build(["go", "gcc", "objcopy"], in_go),
-    "Python, sanitized": Build(["gcc", "objcopy"], partial(in_python, checker="sanitized")),
-    "Python, valgrind": Build(["valgrind", "objcopy"], partial(in_python, checker="valgrind")),
+    **{f"Python, {it}": checked_by(in_python, "gcc", "objcopy", checker=it) for it in ["sanitized", "valgrind"]},
 }
 
 

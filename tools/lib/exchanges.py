@@ -2,29 +2,10 @@
 import os
 import random
 import re
+from contextlib import suppress
 from pathlib import Path
-from typing import Callable
 
-from lib.ends import FILE_CHANGED, End, Port, ack, bytes_of, data, expect
-
-
-# Blocks of at least the length of one read of a file: six full ones and a short one
-CUT_SIZE = 32_768
-CUT_FILE = bytes_of(200_000)
-
-
-def is_given_up(end: End, first: bytes, cut: Callable[[], None]) -> None:
-    """The datagram `first` is answered by block 1, and then the file is cut short. No short block follows, which
-    would be mistaken for the last (RFC 1350, section 6): the sender gives up before."""
-    blocks = [CUT_FILE[at:at + CUT_SIZE] for at in range(0, len(CUT_FILE), CUT_SIZE)]
-    end.is_answered(first, data(1, blocks[0]))
-    cut()
-    for number in range(1, 6):
-        answer = end.answer_to(ack(number))
-        if answer == FILE_CHANGED:
-            return
-        expect(answer, data(number + 1, blocks[number]), "the answer")
-    raise AssertionError("blocks of a file that is cut short")
+from lib.ends import Port, expect
 
 
 def random_bytes(length: int) -> bytes:
@@ -39,13 +20,12 @@ COUNTED, INTERVAL, HARDLY_LONGER = 5, 1, 1.25
 def times_of(port: Port, datagram: bytes) -> list[float]:
     """When this datagram came to a port, in seconds by the clock of the kernel. Nothing else is to come."""
     times = list[float]()
-    while True:
-        try:
+    with suppress(BlockingIOError):
+        while True:
             found, when, _ = port.arrived(0)
-        except BlockingIOError:
-            return times
-        expect(found, datagram, "what came")
-        times.append(when)
+            expect(found, datagram, "what came")
+            times.append(when)
+    return times
 
 
 def were_counted(times: list[float], what: str) -> None:

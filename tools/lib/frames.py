@@ -1,5 +1,6 @@
 """Builds captures by hand, byte by byte: frames of each link, classic files and pcapng, for `captures.py`."""
 import struct
+from socket import inet_aton as octets
 from typing import Iterable, Optional, Sequence
 
 from .packets import ack, data, oack, rrq
@@ -12,11 +13,6 @@ CLIENT, SERVER = "192.0.2.2", "192.0.2.1"
 
 ETHERNET, COOKED, COOKED2, RAW, LOOPBACK, LOOP = 1, 113, 276, 101, 0, 108
 MICROS, NANOS = 0xA1B2C3D4, 0xA1B23C4D
-
-
-def octets(address: str) -> bytes:
-    """The four bytes of an address."""
-    return bytes(int(part) for part in address.split("."))
 
 
 def udp(source: int, target: int, payload: bytes, length: Optional[int] = None) -> bytes:
@@ -45,21 +41,16 @@ def link(kind: int, packet: bytes, *, tags: Sequence[int] = (), protocol: int = 
     if kind == COOKED2:
         first, rest = (tags[0], typed[2:]) if tags else (protocol, packet)
         return struct.pack(">HHIHBB8s", first, 0, 1, 1, 0, 6, bytes(8)) + rest
-    if kind in (LOOPBACK, LOOP):
-        # the one in the byte order of its host, the other with the highest byte first
-        return struct.pack("<I" if kind == LOOPBACK else ">I", 2) + packet
-    return packet
+    # the one in the byte order of its host, the other with the highest byte first
+    return {LOOPBACK: b"\2\0\0\0", LOOP: b"\0\0\0\2"}.get(kind, b"") + packet
 
 
-def classic(frames: Iterable[Timed], kind: int, *, order: str = "<", magic: int = MICROS,
-            snap: int = 262144) -> bytes:
+def classic(frames: Sequence[Timed], kind: int, *, order: str = "<", magic: int = MICROS, snap: int = 262144) -> bytes:
     """A capture in the classic format: pairs of a time in microseconds and a frame."""
-    parts = [struct.pack(order + "IHHiIII", magic, 2, 4, 0, 0, snap, kind)]
-    for at, frame in frames:
-        fraction = at % 1_000_000 * (1000 if magic == NANOS else 1)
-        parts.append(struct.pack(order + "IIII", at // 1_000_000, fraction, min(len(frame), snap), len(frame)))
-        parts.append(frame[:snap])
-    return b"".join(parts)
+    unit = 1000 if magic == NANOS else 1
+    heads = [(at // 1_000_000, at % 1_000_000 * unit, min(len(frame), snap), len(frame)) for at, frame in frames]
+    records = [struct.pack(order + "IIII", *head) + frame[:snap] for head, (_, frame) in zip(heads, frames)]
+    return struct.pack(order + "IHHiIII", magic, 2, 4, 0, 0, snap, kind) + b"".join(records)
 
 
 def block(order: str, kind: int, body: bytes) -> bytes:
@@ -76,9 +67,7 @@ def section(order: str) -> bytes:
 
 def interface(order: str, kind: int, snap: int = 262144, resolution: Optional[int] = None) -> bytes:
     """An interface, with an option for its clock if it is not microseconds."""
-    options = b""
-    if resolution is not None:
-        options = struct.pack(order + "HHB3xHH", 9, 1, resolution, 0, 0)
+    options = b"" if resolution is None else struct.pack(order + "HHB3xHH", 9, 1, resolution, 0, 0)
     return block(order, 1, struct.pack(order + "HHI", kind, 0, snap) + options)
 
 
@@ -96,10 +85,8 @@ def simple(order: str, frame: bytes) -> bytes:
 def pcapng(frames: Iterable[Timed], kind: int, *, order: str = "<", resolution: Optional[int] = None,
            per_second: int = 1_000_000, between: bytes = b"") -> bytes:
     """A capture in pcapng, of one section with one interface."""
-    parts = [section(order), interface(order, kind, resolution=resolution)]
-    for at, frame in frames:
-        parts.append(enhanced(order, at * per_second // 1_000_000, frame) + between)
-    return b"".join(parts)
+    packets = [enhanced(order, at * per_second // 1_000_000, frame) + between for at, frame in frames]
+    return b"".join([section(order), interface(order, kind, resolution=resolution), *packets])
 
 
 def exchange(client_port: int = 54359, server_port: int = 38225, at: int = 1_764_000_000_000_000,
@@ -107,19 +94,12 @@ def exchange(client_port: int = 54359, server_port: int = 38225, at: int = 1_764
     """A get of 20 bytes in blocks of 8, DATA 2 of which is sent again after a second: (time, source, target,
     payload)."""
     client, server = (CLIENT, client_port), (SERVER, server_port)
-    told = [
-        (0, client, (SERVER, 69), rrq(name, blksize=8)),
-        (2718, server, client, oack(blksize=8)),
-        (2803, client, server, ack(0)),
-        (2861, server, client, data(1, b"9MjBkefw")),
-        (2886, client, server, ack(1)),
-        (2899, server, client, data(2, b"#\0vLsCL\n")),
-        (1003961, server, client, data(2, b"#\0vLsCL\n")),
-        (1004008, client, server, ack(2)),
-        (1004023, server, client, data(3, b"lKQN")),
-        (1004035, client, server, ack(3)),
-    ]
-    return [(at + after, source, target, payload) for after, source, target, payload in told]
+    there = [(2718, oack(blksize=8)), (2861, data(1, b"9MjBkefw")), (2899, data(2, b"#\0vLsCL\n")),
+             (1003961, data(2, b"#\0vLsCL\n")), (1004023, data(3, b"lKQN"))]
+    back = [(2803, ack(0)), (2886, ack(1)), (1004008, ack(2)), (1004035, ack(3))]
+    told = [(at, client, (SERVER, 69), rrq(name, blksize=8)), *((at + it, server, client, sent) for it, sent in there),
+            *((at + it, client, server, sent) for it, sent in back)]
+    return sorted(told)
 
 
 def packets(datagrams: Iterable[Datagram], options: bytes = b"") -> list[Timed]:

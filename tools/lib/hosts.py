@@ -34,18 +34,14 @@ class Host:
     @contextmanager
     def inside(self) -> Iterator[None]:
         """The sockets that this thread makes meanwhile are of this host."""
+        # (os.setns is there from Python 3.12 on)
+        setns = ctypes.CDLL(None).setns
         with open("/proc/thread-self/ns/net") as own, open(f"/proc/{self.process.pid}/ns/net") as other:
-            self.enter(other.fileno())
+            assert setns(other.fileno(), CLONE_NEWNET) == 0
             try:
                 yield
             finally:
-                self.enter(own.fileno())
-
-    def enter(self, namespace: int) -> None:
-        # (os.setns is there from Python 3.12 on)
-        libc = ctypes.CDLL(None, use_errno=True)
-        if libc.setns(namespace, CLONE_NEWNET):
-            raise OSError(ctypes.get_errno(), "setns")
+                assert setns(own.fileno(), CLONE_NEWNET) == 0
 
     def run(self, script: str) -> None:
         """Runs shell commands here."""

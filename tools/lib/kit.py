@@ -1,4 +1,6 @@
 """The crates of the repository by crates.txt and as the toolchain has them, and what it has built of them."""
+import os
+import re
 import shutil
 import sys
 from functools import lru_cache
@@ -19,16 +21,30 @@ def kit() -> Path:
 @lru_cache(None)
 def listed() -> dict[str, list[str]]:
     """The crates of crates.txt, each with the words behind its name and the libraries that it uses."""
-    lines = [line.partition("#")[0].partition(":") for line in (TOP / "crates.txt").read_text().splitlines()]
-    return {name.split()[0]: [*name.split()[1:], *uses.split()] for name, _, uses in lines if name.strip()}
+    lines = re.findall(r"(?m)^(\w+)([^:#\n]*):([^#\n]*)", (TOP / "crates.txt").read_text())
+    return {name: [*words.split(), *uses.split()] for name, words, uses in lines}
 
 
 @lru_cache(None)
 def below(name: str) -> set[str]:
     """All crates of the repository that one is built on."""
-    found = listed()
-    own = set(found[name]) & {*found}
+    own = {*listed()[name]} & {*listed()}
     return own.union(*map(below, own))
+
+
+def repository_of(name: str, room: Path) -> Path:
+    """Makes a repository of hard links with a crate, those below it, and what was built of them: rt lets in one run at
+    a time to a crate and those below it. Returns the crate's folder there."""
+    own = {name, *below(name)}
+    shutil.rmtree(room, ignore_errors=True)
+    for place in [f"{name}/out", *(f"{each}/out/rlib" for each in below(name)),
+                  *(f"{each}/{part}" for each in own for part in ("src", "specs", "proofs"))]:
+        if (TOP / "crates" / place).is_dir():
+            shutil.copytree(TOP / "crates" / place, room / "crates" / place, copy_function=os.link, symlinks=True)
+    lines = (TOP / "crates.txt").read_text().splitlines(True)
+    (room / "crates.txt").write_text("".join(line for line in lines if re.split("[ :]", line)[0] in own))
+    shutil.copy2(TOP / "HANDLES", room)
+    return room / "crates" / name
 
 
 def crates() -> dict[str, Any]:

@@ -31,8 +31,5 @@ def mutated(draw: Any, texts: list[bytes], has_lines: bool = True) -> bytes:
 
 def many(count: int, *strategies: Any) -> Callable[[Callable[..., None]], Callable[..., None]]:
     """A test of so many inputs."""
-    def of(test: Callable[..., None]) -> Callable[..., None]:
-        how = settings(max_examples=count, deadline=None, database=None, suppress_health_check=list(HealthCheck))
-        return seed(SEED)(how(given(*strategies)(test)))
-
-    return of
+    how = settings(max_examples=count, deadline=None, database=None, suppress_health_check=list(HealthCheck))
+    return lambda test: seed(SEED)(how(given(*strategies)(test)))

@@ -29,15 +29,12 @@ class Failure(Exception):
 class Program:
     """A process, with what it has written so far. It is ended by its own number, after `life` seconds at most."""
 
-    def __init__(self, words: Words, folder: Union[str, Path], life: float, limit: Optional[str] = None,
-                 **how: Any) -> None:
-        command = ["sh", "-c", LIMITED, limit, *words] if limit else words
+    def __init__(self, words: Words, folder: Union[str, Path], life: float, **how: Any) -> None:
         how = {"stdin": subprocess.DEVNULL, "stdout": subprocess.PIPE, "stderr": subprocess.PIPE, **how}
         lives = ["timeout", "--foreground", "-s", "KILL", str(life)]
-        self.process = subprocess.Popen([*lives, *command], cwd=folder, **how)
-        self.name = Path(words[0]).name
-        self.output: Any = self.process.stdout
-        self.texts = {pipe: b"" for pipe in (self.process.stdout, self.process.stderr) if pipe}
+        self.process = subprocess.Popen([*lives, *words], cwd=folder, **how)
+        self.name, self.output = Path(words[0]).name, self.process.stdout
+        self.texts: dict[Any, bytes] = {pipe: b"" for pipe in (self.process.stdout, self.process.stderr) if pipe}
         for pipe in self.texts:
             os.set_blocking(pipe.fileno(), False)
 
@@ -54,15 +51,13 @@ class Program:
     def lines(self) -> list[str]:
         """The whole lines of standard output since the last call."""
         self.take()
-        if self.output is None:
-            return []
         *lines, self.texts[self.output] = self.texts[self.output].split(b"\n")
         return [line.decode() for line in lines]
 
     def first_line(self) -> str:
         """The first line of standard output, which leaves those behind it."""
         end = time.monotonic() + PATIENCE
-        while self.output and b"\n" not in self.texts[self.output]:
+        while b"\n" not in self.texts[self.output]:
             if not self.take(end - time.monotonic()) or time.monotonic() > end:
                 raise Failure(f"{self.name}: no line within {PATIENCE} seconds: {[*self.texts.values()]}")
         line, _, self.texts[self.output] = self.texts[self.output].partition(b"\n")
@@ -70,11 +65,9 @@ class Program:
 
     def pid(self) -> int:
         """The number of the program itself, below `timeout`."""
-        children = f"/proc/{self.process.pid}/task/{self.process.pid}/children"
-        end = time.monotonic() + PATIENCE
+        children, end = Path(f"/proc/{self.process.pid}/task/{self.process.pid}/children"), time.monotonic() + PATIENCE
         while self.process.poll() is None and time.monotonic() < end:
-            found = Path(children).read_text().split()
-            if found:
+            if found := children.read_text().split():
                 return int(found[0])
             time.sleep(0.01)
         raise Failure(f"{self.name}: no process")
@@ -89,10 +82,7 @@ class Program:
         while self.take(min(end - time.monotonic(), 0.5)):
             if time.monotonic() > end:
                 raise Failure(f"{self.name} has not ended after {seconds} seconds: {[*self.texts.values()]}")
-        try:
-            status = self.process.wait(max(end - time.monotonic(), 0.1))
-        except subprocess.TimeoutExpired as late:
-            raise Failure(f"{self.name} has not ended after {seconds} seconds") from late
+        status = self.process.wait(max(end - time.monotonic(), 0.1))
         return status, self.text(self.process.stdout), self.text(self.process.stderr)
 
     def text(self, pipe: Any) -> str:
@@ -119,29 +109,14 @@ class Server(Program):
     """A `tftpd` that listens at an address, at a port that the system chooses."""
 
     def __init__(self, program: Union[str, Path], host: str, folder: Union[str, Path], words: Words, life: float,
-                 limit: Optional[str] = None, root: str = ".") -> None:
-        super().__init__([program, root, "--listen", f"{host}:0", *words], folder, life, limit)
+                 root: str = ".") -> None:
+        super().__init__([program, root, "--listen", f"{host}:0", *words], folder, life)
         try:
             line = self.first_line()
+            if not line.startswith(f"listening {host}:"):
+                raise Failure(f"the first line of a server: {line}")
         except Failure:
             self.end()
             raise
-        if not line.startswith(f"listening {host}:"):
-            self.end()
-            raise Failure(f"the first line of a server: {line}")
         self.word = line.split()[1]
         self.address = (host, int(line.rpartition(":")[2]))
-
-    def usage(self) -> tuple[int, float]:
-        """Its open files and its resident memory in MB."""
-        pid = self.pid()
-        with open(f"/proc/{pid}/status") as text:
-            kilobytes = next(int(line.split()[1]) for line in text if line.startswith("VmRSS:"))
-        return len(os.listdir(f"/proc/{pid}/fd")), kilobytes / 1024
-
-    def has_checks(self) -> bool:
-        """Whether `rt try` compiled it with its checks on: then what it frees is kept for a while, to find its
-        use."""
-        # (where the shadow memory of AddressSanitizer begins)
-        with open(f"/proc/{self.pid()}/maps") as text:
-            return text.readline().startswith("7fff7000-")

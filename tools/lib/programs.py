@@ -6,7 +6,7 @@ import shutil
 import subprocess
 import sys
 from pathlib import Path
-from typing import Optional, Sequence
+from typing import Any, Optional, Sequence
 
 TOP = Path(__file__).resolve().parent.parent.parent
 NAMES = ("tftp-show", "tftp-play", "tftp", "tftpd")
@@ -17,39 +17,33 @@ def of_crate(crate: str) -> Path:
     return TOP / "crates" / crate / "out" / crate
 
 
-def places_of(name: str) -> list[Path]:
-    """Where a program may be, the first of which counts."""
-    given = [Path(folder) / name for folder in [os.environ.get("TFTP_PROGRAMS")] if folder]
-    return [*given, TOP / "bin" / name, of_crate(name.replace("-", "_") + "_main")]
-
-
 def found(name: str) -> Optional[Path]:
     """The path of a program, if it is there."""
-    return next((path for path in places_of(name) if path.is_file()), None)
+    given = [Path(folder, name) for folder in [os.environ.get("TFTP_PROGRAMS")] if folder]
+    places = [*given, TOP / "bin" / name, of_crate(name.replace("-", "_") + "_main")]
+    return next((path.absolute() for path in places if path.is_file()), None)
 
 
 def program(name: str) -> Path:
-    """The path of a program. Without it a check ends with status 2."""
-    path = found(name)
-    if path is None:
-        places = " and no ".join(map(str, places_of(name)))
-        print(f"there is no {places}: run `make` or `rt ci` first", file=sys.stderr)
-        sys.exit(2)
-    return path
+    """The path of a program. Without it a check ends."""
+    return found(name) or sys.exit(f"there is no {name} in bin/ or crates/: run `make` or `rt ci` first")
 
 
 def programs(names: Sequence[str], given: Sequence[str] = ()) -> dict[str, str]:
     """The absolute paths of programs by their names: those that a command line gives in this order, or those
     found."""
-    places = given or [str(program(name)) for name in names]
-    paths = {name: os.path.abspath(path) for name, path in zip(names, places)}
-    for path in paths.values():
-        if not os.path.isfile(path):
-            sys.exit(f"{path} is not there")
-    return paths
+    paths = {name: Path(path).absolute() for name, path in zip(names, given or [str(program(name)) for name in names])}
+    if lacking := [path for path in paths.values() if not path.is_file()]:
+        sys.exit(f"{lacking} is not there")
+    return {name: str(path) for name, path in paths.items()}
+
+
+def ran(*words: Any, **how: Any) -> "subprocess.CompletedProcess[str]":
+    """Runs a command at the top to its end, and takes what it prints."""
+    how = {"cwd": TOP, "stdin": None if "input" in how else subprocess.DEVNULL, "timeout": 600, **how}
+    return subprocess.run([*map(str, words)], capture_output=True, text=True, errors="replace", **how)
 
 
 def may_trace() -> bool:
     """Whether strace is here and may trace."""
-    words = ["strace", "-o", "/dev/null", "true"]
-    return shutil.which("strace") is not None and subprocess.run(words, capture_output=True).returncode == 0
+    return shutil.which("strace") is not None and ran("strace", "-o", "/dev/null", "true").returncode == 0

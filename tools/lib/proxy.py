@@ -1,4 +1,5 @@
 """A network between one client and a server that loses, duplicates and reorders datagrams by a seed."""
+import random
 import select
 import threading
 
@@ -12,23 +13,15 @@ class Lane:
     """One direction. Of twenty datagrams three are lost, three duplicated, and three sent after the next one."""
 
     def __init__(self, seed) -> None:
-        self.seed, self.late = seed, []
-
-    def number(self) -> int:
-        """The next number below 20, by a linear congruential generator."""
-        self.seed = (self.seed * 6_364_136_223_846_793_005 + 1_442_695_040_888_963_407) % 2**64
-        return (self.seed >> 40) % 20
+        self.rng, self.late = random.Random(seed), []
 
     def sent_for(self, datagram) -> list[bytes]:
         """What is sent once a datagram has come in this direction."""
-        number = self.number()
-        if number < 3:
-            return []
+        number = self.rng.randrange(20)
         if number < 6:
-            self.late = [datagram]
+            self.late = [datagram] if number >= 3 else self.late
             return []
-        copies = 2 if number < 9 else 1
-        sent, self.late = [datagram] * copies + self.late, []
+        sent, self.late = [datagram] * (2 if number < 9 else 1) + self.late, []
         return sent
 
 
@@ -37,11 +30,9 @@ class Proxy:
 
     def __init__(self, server, seed) -> None:
         self.requests, self.answers, self.server_side = (Port(server[0]) for _ in range(3))
-        self.word, self.server = self.requests.word, server
-        self.client = self.transfer = None
+        self.word, self.server, self.client, self.transfer = self.requests.word, server, None, None
         self.to_server, self.to_client = Lane(seed), Lane(seed + 1_000)
-        self.is_closed = threading.Event()
-        self.thread = threading.Thread(target=self.run)
+        self.is_closed, self.thread = threading.Event(), threading.Thread(target=self.run)
         self.thread.start()
 
     def close(self) -> None:
@@ -51,28 +42,21 @@ class Proxy:
             port.close()
 
     def run(self) -> None:
-        takers = {
-            self.requests.socket: self.take_request,
-            self.answers.socket: self.take_of_client,
-            self.server_side.socket: self.take_of_transfer,
-        }
+        ports = {port.socket: port for port in (self.requests, self.answers, self.server_side)}
         while not self.is_closed.is_set():
-            for ready in select.select(list(takers), [], [], MOMENT)[0]:
-                takers[ready](*ready.recvfrom(65_536))
+            for ready in select.select([*ports], [], [], MOMENT)[0]:
+                self.take(ports[ready], *ready.recvfrom(65_536))
 
-    def take_request(self, datagram, sender) -> None:
-        """A request is lost or sent once: a copy that is late could open a second transfer."""
-        self.client = sender
-        if self.to_server.number() >= 3:
-            self.server_side.send(datagram, self.server)
-
-    def take_of_client(self, datagram, _) -> None:
-        if self.transfer:
+    def take(self, port, datagram, sender) -> None:
+        if port is self.requests:
+            # (a request is lost or sent once: a copy that is late could open a second transfer)
+            self.client = sender
+            if self.to_server.rng.random() >= 0.15:
+                self.server_side.send(datagram, self.server)
+        elif port is self.server_side:
+            self.transfer = self.transfer or sender
+            for each in self.to_client.sent_for(datagram) if sender == self.transfer else []:
+                self.answers.send(each, self.client)
+        elif self.transfer:
             for each in self.to_server.sent_for(datagram):
                 self.server_side.send(each, self.transfer)
-
-    def take_of_transfer(self, datagram, sender) -> None:
-        self.transfer = self.transfer or sender
-        if sender == self.transfer:
-            for each in self.to_client.sent_for(datagram):
-                self.answers.send(each, self.client)

@@ -2,60 +2,44 @@
 test."""
 import os
 import re
-import resource
 import select
 import signal
 import subprocess
-from collections import Counter
-from contextlib import ExitStack, contextmanager
+from contextlib import ExitStack, closing
 from pathlib import Path
-from typing import Any, Callable, Iterator, Optional, Sequence, Union
+from typing import Any, Optional, Sequence
 
-from lib.ends import BUSY, PATIENCE, PATIENT, End, Port, ack, data, expect, free_ports, oack, rrq, wait_until, wrq
+from lib.ends import PATIENCE, PATIENT, End, Port, ack, data, expect, oack, rrq, wait_until, wrq
 from lib.packets import line_of
 from lib.preload import compiled
 from lib.process import LIMITED
 from lib.programs import TOP
 from lib.proxy import Proxy
 
-__all__ = ["BUSY", "LIFE", "PATIENTLY", "Client", "Scene", "Server", "Servers", "children_of", "closed_pipe",
-           "drain_of", "few_files", "first_line", "free_ports", "is_gone", "next_line", "preloaded", "unmarked",
-           "wait_for_servers", "written_by"]
 # The longest life of a program, in seconds: it ends before a timeout of a patient transfer is due
 LIFE = 180
 # How often a program sends again what is not answered, unless the test says otherwise: as often as it can
 RETRIES = ["--retries", "10"]
-# How the name of the file ends that has several servers of a test drain
-END = ".end"
 # The words of a patient transfer. A client that ends at all in a test ends before its first timeout
 PATIENTLY = ["--timeout", f"{PATIENT['timeout']}"]
 # where the number of a server stands in a line, behind the priority that the journal takes
 MARKED = r"server (\d+): "
-# how a transfer closes whose client goes on with another
-UNCHOSEN = (" TimedOut", " PeerError(5)")
-# what lies at a path: the bytes of a file, the target of a link, or a folder
-Content = Union[bytes, str, None]
 
 
-def next_line(stream: Any) -> str:
+def next_line(stream) -> str:
     """The next line that a program writes to this stream, or nothing at its end."""
     if not select.select([stream], [], [], PATIENCE)[0]:
         raise AssertionError(f"no line after {PATIENCE} seconds")
-    return str(stream.readline().decode())
+    return stream.readline().decode()
 
 
-def first_line(process: Any) -> str:
-    """The first line that a program prints."""
-    return next_line(process.stdout)
-
-
-def written_by(process: Any, patience: float = LIFE) -> tuple[str, str]:
+def written_by(process, patience=LIFE) -> tuple[str, str]:
     """What a program has printed and written as errors, once it has ended."""
     printed, errors = ((text or b"").decode(errors="replace") for text in process.communicate(timeout=patience))
     return printed, errors
 
 
-def preloaded(scene: "Scene", source: str, **values: Any) -> dict[str, str]:
+def preloaded(scene, source: str, **values: Any) -> dict[str, str]:
     """The environment of a program with a library of this source of tests/shims, which reads these variables."""
     # (beside the folder of the test, which may be served)
     folder = scene.beside("libraries")
@@ -69,53 +53,37 @@ def patiently(words: Sequence[Any]) -> list[Any]:
     return [*words, *([] if "--retries" in words else RETRIES)]
 
 
-def endless(words: Sequence[Any]) -> list[Any]:
-    """The words of a server without what ends it."""
-    kept = [word for at, word in enumerate(words) if not {word, *words[at - 1:at]} & {"--transfers", "--rounds"}]
-    return [*kept, *([] if "--forever" in kept else ["--forever"])]
-
-
-def drain_of(process: Any) -> Optional[Path]:
-    """The file that ends several servers, where it is not the test that makes it."""
-    return next((Path(word) for word in process.args if str(word).endswith(END)), None)
-
-
 class Client:
     """A tftp that was started."""
 
-    def __init__(self, process: Any) -> None:
+    def __init__(self, process) -> None:
         self.process = process
 
-    def ends(self, status: int, printed: Optional[str] = "", errors: Optional[str] = "", life: float = LIFE) -> None:
+    def ends(self, status, printed: Optional[str] = "", errors: Optional[str] = "", life=LIFE) -> None:
         """It ends with this status, and has written exactly this; None is for a stream that the test reads."""
         wrote = [text if text is None else text.decode() for text in self.process.communicate(timeout=life)]
         expect((self.process.returncode, *wrote), (status, printed, errors), "the client")
 
-    def completes(self, length: int, life: float = LIFE) -> None:
+    def completes(self, length: int, life=LIFE) -> None:
         """It reports a complete transfer of a file of this length, within so many seconds."""
         self.ends(0, f"complete {length}\n", life=life)
 
-    def fails(self, outcome: str, cause: Optional[str] = None) -> None:
-        """It reports a transfer that failed with this outcome, and then its cause, in a line on standard error
-        each."""
+    def fails(self, outcome: str, cause="") -> None:
+        """It reports a transfer that failed with this outcome, and its cause, in a line on standard error each."""
         printed, errors = written_by(self.process)
-        lines = errors.splitlines()
-        expect((self.process.returncode, printed, lines[:1]), (1, "", [f"tftp: {outcome}"]), "the client")
-        expect([line[:6] for line in lines[1:]], ["tftp: "], f"how the cause begins in {lines}")
-        if cause:
-            expect(lines[1], f"tftp: {cause}", "the cause")
+        pattern = rf"tftp: {re.escape(outcome)}\ntftp: {re.escape(cause) or '.+'}\n"
+        found = (self.process.returncode, printed, bool(re.fullmatch(pattern, errors)))
+        expect(found, (1, "", True), f"the client, and whether {pattern!r} is what it writes, {errors!r}")
 
 
 class Server:
     """A tftpd that listens: its address, also as a word of a command line, and clients of it at ports of the test."""
-    count = 1
 
-    def __init__(self, scene: "Scene", process: Any) -> None:
+    def __init__(self, scene, process) -> None:
         self.scene, self.process = scene, process
-        line = first_line(process)
+        line = next_line(process.stdout)
         found = re.fullmatch(r"listening ((\d+\.\d+\.\d+\.\d+):(\d+))\n", line)
-        if not found:
-            raise AssertionError(f"the first line of the server: {line!r}")
+        expect(bool(found), True, f"whether the first line of the server says where it listens: {line!r}")
         self.word, self.address = found[1], (found[2], int(found[3]))
         if "--log" in process.args and not {"--servers", "--log-time"} & set(process.args):
             expect(next_line(process.stderr), line, "the first line of the log")
@@ -134,11 +102,11 @@ class Server:
         expect(end.peer != self.address, True, "whether the transfer has a port of its own")
         return end
 
-    def reads(self, name: str, mode: str = "octet", port: Optional[Port] = None, **options: Any) -> End:
+    def reads(self, name, mode="octet", port=None, **options) -> End:
         """Opens a read of which nothing is sent again, and which has no block yet."""
         return self.opens(rrq(name, mode, **options, **PATIENT), oack(**options, **PATIENT), port)
 
-    def writes(self, name: str, port: Optional[Port] = None, **options: Any) -> End:
+    def writes(self, name, port=None, **options) -> End:
         """Opens a write of which nothing is sent again."""
         return self.opens(wrq(name, **options, **PATIENT), oack(**options, **PATIENT), port)
 
@@ -165,25 +133,18 @@ class Server:
 
     # ---- its end, and what it has written
 
-    def wait(self) -> int:
-        """Its status, once it has ended by its count."""
-        return int(self.process.wait(LIFE))
-
     def ended(self) -> tuple[int, list[str], list[str]]:
         """Its status, what it printed and its log, once nobody has its pipes any more."""
         printed, log = (text.splitlines() for text in written_by(self.process))
         return self.process.returncode, printed, log
 
-    def has_closed(self, *outcomes: str, why: str = "") -> list[str]:
+    def has_closed(self, *outcomes: str, why="") -> list[str]:
         """It ends with status 0, and has printed a line for each closed transfer, with these outcomes; the log ends
         with the last of them and this reason. Returns the log, without requests that a client repeated because the
         host is slow."""
         status, printed, log = self.ended()
-        found = [re.fullmatch(r"\d+ \d+ (\S+)", line) for line in printed]
-        order: Any = sorted if self.count > 1 else list
-        outcomes_found = order(line[1] if line else "no outcome" for line in found)
-        expect(outcomes_found, order(outcomes), f"the outcomes in {printed}, {log}")
-        expect(status, 0, "the status of the server")
+        found = [re.sub(r"\d+ \d+ (\S+)", r"\1", line) for line in printed]
+        expect((status, *found), (0, *outcomes), f"the status and the outcomes in {printed}, {log}")
         if why:
             expect(log[-1].endswith(f", {outcomes[-1]}, {why}"), True, f"whether the log {log} has {why}")
         return [line for at, line in enumerate(log) if not line.startswith("ignored ")
@@ -196,51 +157,33 @@ class Server:
     def closes(self, *reasons: str) -> None:
         """The next lines of its log are those of a transfer that opens and closes, and end with these."""
         lines = [self.log_line() for _ in range(2)]
-        expect([line.split()[0] for line in lines], ["opened", "closed"], f"the log {lines}")
-        expect(lines[1].endswith(f", {', '.join(reasons)}"), True, f"whether the log {lines} has {reasons}")
+        logs(lines, "opened .*", f"closed .*, {re.escape(', '.join(reasons))}")
 
     def has_logged(self, count: int) -> list[str]:
         """Waits for so many lines of its log, and kills it. Returns them, and any that came behind."""
         lines = [self.log_line() for _ in range(count)]
         self.process.kill()
-        return [line.strip() for line in lines] + self.own_lines(written_by(self.process)[1].splitlines())
-
-    def own_lines(self, log: list[str]) -> list[str]:
-        return log
-
-    def logs(self, log: list[str], patterns: Sequence[str]) -> None:
-        """A log has exactly these lines, of several servers in any order."""
-        left = list(log)
-        for pattern in patterns:
-            found = [line for line in (left if self.count > 1 else left[:1]) if re.fullmatch(pattern, line)]
-            expect(bool(found), True, f"whether a line of {left} is {pattern}")
-            left.remove(found[0])
-        expect(left, [], f"the lines of the log beside {patterns}")
+        return [*lines, *written_by(self.process)[1].splitlines()]
 
     def has_logged_only(self, *patterns: str) -> None:
         """Its log has these lines, and is killed."""
-        self.logs(self.has_logged(len(patterns)), patterns)
-
-    def pids(self) -> list[int]:
-        return [self.process.pid]
+        logs(self.has_logged(len(patterns)), *patterns)
 
     def stop(self) -> None:
         """Stops it until `go_on`."""
-        for pid in self.pids():
-            os.kill(pid, signal.SIGSTOP)
-        wait_until(lambda: all(state_of(pid) in "TZX" for pid in self.pids()), "a server that stops")
+        self.process.send_signal(signal.SIGSTOP)
+        wait_until(lambda: state_of(self.process.pid) in "TZX", "a server that stops")
 
     def go_on(self) -> None:
         """(Its `epoll_wait` ends by EINTR once, which counts as a wait.)"""
-        for pid in self.pids():
-            os.kill(pid, signal.SIGCONT)
+        self.process.send_signal(signal.SIGCONT)
 
     def kill(self) -> None:
         self.process.kill()
         self.process.wait(PATIENCE)
 
 
-def children_of(process: Any) -> list[int]:
+def children_of(process) -> list[int]:
     """The servers that a supervisor has started, in their order; none once it has ended."""
     if process.poll() is not None:
         return []
@@ -255,87 +198,38 @@ def state_of(pid: int) -> str:
         return "X"
 
 
-def is_gone(pid: int) -> bool:
-    """Whether a process has ended."""
-    return state_of(pid) in "ZX"
+def are_gone(pids: Sequence[int]) -> bool:
+    """Whether processes have ended."""
+    return all(state_of(pid) in "ZX" for pid in pids)
 
 
 def is_serving(pid: int) -> bool:
     """Whether a server waits: it has a poll of its own, not that of its supervisor."""
     try:
         fds = [os.readlink(f"/proc/{pid}/fd/{name}") for name in os.listdir(f"/proc/{pid}/fd")]
-        is_server = b"\0--server=" in Path(f"/proc/{pid}/cmdline").read_bytes()
+        return "anon_inode:[eventpoll]" in fds and b"\0--server=" in Path(f"/proc/{pid}/cmdline").read_bytes()
     except OSError:
         return False
-    return is_server and "anon_inode:[eventpoll]" in fds
 
 
-def wait_for_servers(process: Any, count: int) -> list[int]:
+def wait_for_servers(process, count: int) -> list[int]:
     """Waits until so many servers of a supervisor serve, or have ended with it, and returns them."""
     wait_until(lambda: sum(map(is_serving, children_of(process))) == count or process.poll() is not None,
                "servers that wait")
     return children_of(process)
 
 
-def unmarked(line: str) -> str:
-    """A line without the number of its server."""
-    return re.sub(rf"^(<\d>)?{MARKED}", lambda found: found[1] or "", line, count=1)
-
-
-class Servers(Server):
-    """Several servers at one port, started by one command, which a test uses as it uses one: a drain ends them, which
-    closes what is open, and their lines are read without their numbers, in any order: a server may write behind its
-    answer, when another has written of the next one."""
-
-    def __init__(self, scene: "Scene", process: Any, count: int) -> None:
-        self.count, self.drain = count, drain_of(process)
-        super().__init__(scene, process)
-        self.servers = wait_for_servers(process, count)
-
-    def pids(self) -> list[int]:
-        return self.servers
-
-    def wait(self) -> int:
-        if self.drain:
-            self.drain.touch()
-        return super().wait()
-
-    def ended(self) -> tuple[int, list[str], list[str]]:
-        """Without what a request opened that a client repeated, because the host is slow, and another server took."""
-        if self.drain:
-            self.drain.touch()
-        status, printed, log = super().ended()
-        expect([line for line in printed if not re.match(MARKED, line)], [], "the lines without a number")
-        printed = [unmarked(line) for line in printed]
-        clients = Counter(line.split()[1] for line in printed)
-        again = {line.split()[0] for line in printed if clients[line.split()[1]] > 1 and line.endswith(UNCHOSEN)}
-        log = [line for line in self.own_lines(log) if line.split()[1] not in again]
-        return status, [line for line in printed if line.split()[0] not in again], log
-
-    def log_line(self) -> str:
-        while not (line := self.own_lines([super().log_line()])):
-            pass
-        return line[0]
-
-    def own_lines(self, log: list[str]) -> list[str]:
-        """The lines that one server would write: none of where they listen, nor of a drain that the test did not ask
-        for."""
-        ours = ("listening ", *["draining: "] * (self.drain is not None))
-        return [line for line in map(unmarked, log) if not line.startswith(ours)]
-
-    def kill(self) -> None:
-        """Kills the supervisor; its servers end by themselves."""
-        super().kill()
-        wait_until(lambda: all(map(is_gone, self.servers)), "servers without a supervisor that end")
+def logs(log: Sequence[str], *patterns: str) -> None:
+    """A log has exactly these lines."""
+    are_so = len(log) == len(patterns) and all(map(re.fullmatch, patterns, log))
+    expect(are_so, True, f"whether the lines of {log} are {patterns}")
 
 
 class Scene:
     """The folder, and what runs for the test."""
 
-    def __init__(self, programs: dict[str, str], folder: Path, address: str, servers: int = 1) -> None:
-        """With more than one of `servers`, each tftpd that the test asks for is so many at one port."""
+    def __init__(self, programs: dict[str, str], folder: Path, address: str) -> None:
         self.programs, self.folder, self.address, self.ending = programs, folder, address, ExitStack()
-        self.servers, self.commands = servers, 0
 
     def __enter__(self) -> "Scene":
         self.folder.mkdir()
@@ -350,23 +244,21 @@ class Scene:
         """A path of the test beside its folder."""
         return self.folder.with_name(f"{self.folder.name}.{name}")
 
-    def make(self, name: str, content: Content) -> None:
-        """Makes a file, a link or a folder, and the folders on its path."""
+    def make(self, name: str, content) -> None:
+        """Makes a file of bytes, a link to a path or, of None, a folder, and the folders on its path."""
         path = self.folder / name
         path.parent.mkdir(parents=True, exist_ok=True)
-        if content is None:
-            path.mkdir()
-        elif isinstance(content, str):
-            path.symlink_to(content)
-        else:
-            path.write_bytes(content)
+        match content:
+            case None:
+                path.mkdir()
+            case str():
+                path.symlink_to(content)
+            case _:
+                path.write_bytes(content)
 
-    def make_all(self, contents: dict[str, Content]) -> None:
+    def make_all(self, contents: dict[str, Any]) -> None:
         for name, content in contents.items():
             self.make(name, content)
-
-    def make_folder(self, name: str) -> None:
-        self.make(name, None)
 
     def content(self, name: str) -> bytes:
         return (self.folder / name).read_bytes()
@@ -383,18 +275,11 @@ class Scene:
         """The drafts in the folder and below."""
         return sorted(str(path.relative_to(self.folder)) for path in self.folder.rglob(".tftp-*"))
 
-    def has(self, **files: bytes) -> None:
-        self.has_files(files)
-
-    def has_files(self, files: dict[str, bytes]) -> None:
-        """The folder and those below have these regular files, with these bytes, and no other. (Of several servers
-        another may have a request, too, that a client repeats because the host is slow: what that one leaves is a
-        draft.)"""
-        is_left = self.servers > 1
-        found = {name: content for name, content in self.files().items()
-                 if name in files or not is_left or not Path(name).name.startswith(".tftp-")}
-        expect(sorted(found), sorted(files), "the files")
-        for name, content in files.items():
+    def has(self, files=(), **more: bytes) -> None:
+        """The folder and those below have these regular files, with these bytes, and no other."""
+        expected, found = dict(files, **more), self.files()
+        expect(sorted(found), sorted(expected), "the files")
+        for name, content in expected.items():
             expect(found[name], content, name)
 
     def lacks(self, *names: str) -> None:
@@ -403,8 +288,7 @@ class Scene:
 
     # ---- programs
 
-    def start(self, program: str, words: Sequence[Any], limit: Optional[str] = None, closed: Optional[int] = None,
-              **how: Any) -> Any:
+    def start(self, program: str, words: Sequence[Any], limit="", closed: Optional[int] = None, **how: Any) -> Any:
         """Starts a program, under a limit, or with one of the standard streams closed."""
         command = [self.programs.get(program, program), *words]
         if limit:
@@ -412,24 +296,20 @@ class Scene:
         if closed is not None:
             command = ["sh", "-c", f'exec "$@" {closed}>&-', "sh", *command]
         how = {"stdin": subprocess.DEVNULL, "stdout": subprocess.PIPE, "stderr": subprocess.PIPE, **how}
-        process = subprocess.Popen(command, cwd=self.folder, bufsize=0, **how)
-        self.ending.callback(end, process)
+        process = self.ending.enter_context(subprocess.Popen(command, cwd=self.folder, bufsize=0, **how))
+        self.ending.callback(process.kill)
         return process
 
-    def ends(self, program: str, words: Sequence[Any], status: int, errors: str = "", printed: str = "",
-             begins: bool = False, **how: Any) -> None:
+    def ends(self, program, words, status, errors="", printed="", begins=False, **how) -> None:
         """A program ends at once with this status, and has written exactly this, or what begins so."""
         process = self.start(program, words, **how)
         wrote = written_by(process, PATIENCE)
         found = [text[:len(wanted)] if begins else text for text, wanted in zip(wrote, [printed, errors])]
         expect((process.returncode, *found), (status, printed, errors), f"{program} {words}, which wrote {wrote}")
 
-    def fails(self, program: str, words: Sequence[Any], errors: str, printed: str = "", **how: Any) -> None:
-        self.ends(program, words, 2, errors, printed, **how)
-
-    def is_usage_fault(self, program: str, *words: Any, **how: Any) -> None:
-        """The command line is not understood."""
-        self.ends(program, words, 2, "error: ", begins=True, **how)
+    def fails(self, program, words, errors="error: ", **how) -> None:
+        """It ends with status 2, and has written exactly this, or is not understood."""
+        self.ends(program, words, 2, errors, begins=errors == "error: ", **how)
 
     def has_help(self, program: str, *words: str) -> str:
         """Help and version end with 0, and write on standard output alone. Returns the help, which is the text of
@@ -444,11 +324,11 @@ class Scene:
             self.ends(program, ["--version"], 0, "", f"{program} {version} (logic ", begins=True)
         return printed
 
-    def tftp(self, *words: Any, **how: Any) -> Client:
+    def tftp(self, *words, **how) -> Client:
         """Starts a client with these words."""
         return Client(self.start("tftp", patiently(words), **how))
 
-    def gets(self, at: Any, name: str, local: str, length: int, *words: Any) -> None:
+    def gets(self, at, name: str, local: str, length: int, *words) -> None:
         """A client gets a file of this length of a server, which is the word of its address or has one."""
         self.tftp("get", getattr(at, "word", at), name, local, "--no-dally", *words).completes(length)
 
@@ -458,98 +338,58 @@ class Scene:
         expect(request, expected, "the request")
         return End(self.port(), client)
 
-    def asks(self, verb: str, names: Sequence[str], expected: bytes, *words: Any, **how: Any) -> tuple[Client, End]:
+    def asks(self, verb: str, names: Sequence[str], expected: bytes, *words, **how) -> tuple[Client, End]:
         """Starts a client with these names and words, and receives its request. Returns it and the server's end,
         which has not answered."""
         requests = self.port()
         client = self.tftp(verb, requests.word, *names, *words, **how)
         return client, self.asked(requests, expected)
 
-    def begun_get(self, *words: Any, **how: Any) -> tuple[Client, End]:
+    def begun_get(self, *words, **how) -> tuple[Client, End]:
         """The same for a get of `a` into `local`, in which nothing is sent again."""
         return self.asks("get", ["a", "local"], rrq("a", **PATIENT), *PATIENTLY, *words, **how)
 
-    def patient_get(self, *words: Any, **how: Any) -> tuple[Client, End]:
+    def patient_get(self, *words, **how) -> tuple[Client, End]:
         """The same once the client has acknowledged its options."""
         client, end = self.begun_get(*words, **how)
         end.is_answered(oack(**PATIENT), ack(0))
         return client, end
 
-    def serve(self, *words: Any, root: str = ".", listen: Optional[str] = None, **how: Any) -> Server:
+    def serve(self, *words, root=".", listen="", **how) -> Server:
         """Starts a server of a folder with these words, under a limit such as `-f 8`: 8 times 512 bytes in a file."""
-        return self.server_of(self.start("tftpd", self.server_words(root, listen or self.address, words), **how))
+        return Server(self, self.start("tftpd", self.server_words(root, f"{listen or self.address}:0", words), **how))
 
-    def serve_at(self, bound: Port, *words: Any) -> Server:
+    def serve_at(self, bound: Port, *words) -> Server:
         """Starts a server of the folder with these words, whose request port is this port of the test."""
-        words = (".", "--listen", "stdin", *self.ending_words(words))
-        return self.server_of(self.start("tftpd", words, stdin=bound.socket))
+        return Server(self, self.start("tftpd", self.server_words(".", "stdin", words), stdin=bound.socket))
 
-    def serve_preloaded(self, source: str, *words: Any, **values: Any) -> Server:
+    def serve_preloaded(self, source: str, *words, **values) -> Server:
         """Starts a server of the folder with a library of this source, which reads these variables."""
         return self.serve(*words, env=preloaded(self, source, **values))
 
     def server_words(self, root: str, address: str, words: Sequence[Any]) -> list[Any]:
-        return [root, "--listen", f"{address}:0", *self.ending_words(words)]
+        """The words of a server that ends by itself, whatever happens to the test."""
+        ends = [] if {"--rounds", "--forever"} & set(words) else ["--rounds", "2000"]
+        return [root, "--listen", address, *patiently(words), *ends]
 
-    def ending_words(self, words: Sequence[Any]) -> list[Any]:
-        """The words of a server that ends by itself, whatever happens to the test, or of several, which end once
-        there is a file."""
-        if self.servers == 1:
-            return patiently([*words, *([] if {"--rounds", "--forever"} & set(words) else ["--rounds", "2000"])])
-        self.commands += 1
-        drain = [] if "--drain" in words else ["--drain", self.beside(f"{self.commands}{END}")]
-        return [*patiently(endless(words)), "--servers", str(self.servers), *drain]
-
-    def server_of(self, process: Any) -> Server:
-        """The server of a process that was started with such words, or the several."""
-        return Server(self, process) if self.servers == 1 else Servers(self, process, self.servers)
-
-    def start_several(self, count: int, *words: Any, root: str = ".", **how: Any) -> Any:
+    def start_several(self, count: int, *words, root=".", listen="", **how) -> Any:
         """Starts so many servers of a folder by one command."""
-        listen = ["stdin"] if "stdin" in how else [f"{self.address}:0"]
-        command = [root, "--listen", *listen, "--servers", f"{count}", "--forever", *patiently(words)]
-        return self.start("tftpd", command, **how)
+        command = [root, "--listen", listen or f"{self.address}:0", "--servers", f"{count}", "--forever"]
+        return self.start("tftpd", [*command, *patiently(words)], **how)
 
-    def served(self, process: Any, count: int) -> Server:
+    def served(self, process, count: int) -> Server:
         """Waits until each of so many servers serves, whose lines have their numbers."""
         server = Server(self, process)
         wait_for_servers(process, count)
         return server
 
-    def serve_several(self, count: int, *words: Any, **how: Any) -> Server:
+    def serve_several(self, count: int, *words, **how) -> Server:
         """Starts so many servers of a folder, and waits until each serves."""
         return self.served(self.start_several(count, *words, **how), count)
 
-    def port(self, number: int = 0, address: Optional[str] = None) -> Port:
+    def port(self, number=0, address="") -> Port:
         """The UDP port of this number, which the system chooses for 0, at the address of the test or another."""
-        port = Port(address or self.address, number)
-        self.ending.callback(port.close)
-        return port
+        return self.ending.enter_context(closing(Port(address or self.address, number)))
 
-    def proxy(self, server: Server, seed: int) -> Proxy:
-        proxy = Proxy(server.address, seed)
-        self.ending.callback(proxy.close)
-        return proxy
-
-
-def few_files(count: int) -> Callable[[], None]:
-    """Has a program start with room for so many open files."""
-    return lambda: resource.setrlimit(resource.RLIMIT_NOFILE, (count, count))
-
-
-@contextmanager
-def closed_pipe() -> Iterator[int]:
-    """The end of a pipe that nobody reads any more."""
-    read, write = os.pipe()
-    os.close(read)
-    yield write
-    os.close(write)
-
-
-def end(process: Any) -> None:
-    """Kills a program if it runs."""
-    process.kill()
-    process.wait(PATIENCE)
-    for stream in (process.stdout, process.stderr):
-        if stream:
-            stream.close()
+    def proxy(self, server, seed: int) -> Proxy:
+        return self.ending.enter_context(closing(Proxy(server.address, seed)))

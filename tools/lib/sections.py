@@ -1,5 +1,6 @@
-"""Rows of tests as text. A file of sections has, for each row, a line `### KIND: TITLE`, what goes in, a line `=== STATUS`, and
-what comes out; a table has a row in each line, and a tab between two columns. A backslash begins an escape as in Python."""
+"""Rows of tests as text. A file of sections has, for each row, a line `### KIND: TITLE`, what goes in, a line
+`=== STATUS`, and what comes out; a table has a row in each line, and a tab between two columns. A backslash begins an
+escape as in Python."""
 from pathlib import Path
 from typing import NamedTuple
 
@@ -13,8 +14,7 @@ class Section(NamedTuple):
 
     def parts(self) -> list[tuple[str, int]]:
         """What comes out as parts of a picture, each with the number of lines that have it."""
-        pairs = [line.split(" ", 1) for line in self.printed.splitlines()]
-        return [(part, int(count)) for count, part in pairs]
+        return [(part, int(count)) for count, part in (line.split(" ", 1) for line in self.printed.splitlines())]
 
 
 def plain(text: str) -> str:
@@ -25,10 +25,10 @@ def sections(path: Path) -> list[Section]:
     found = []
     for text in path.read_text().split("### ")[1:]:
         head, _, body = text.partition("\n")
-        kind, _, title = head.partition(": ")
-        given, _, rest = body.rpartition("=== ") if body.startswith("=== ") else body.partition("\n=== ")
+        given, _, rest = f"\n{body}".partition("\n=== ")
         status, _, printed = rest.partition("\n")
-        found.append(Section(kind, title, plain(given + "\n" * bool(given)), int(status), plain(printed)))
+        kind, _, title = head.partition(": ")
+        found.append(Section(kind, title, plain(f"{given}\n"[1:]), int(status), plain(printed)))
     return found
 
 

@@ -3,22 +3,23 @@ and options of the programs have to be there, and so has the command itself."""
 import re
 import shlex
 import shutil
+from contextlib import suppress
 from functools import lru_cache
 from pathlib import Path
 from typing import Iterator, Mapping
 
 from lib.programs import TOP
 from lib.units import settings_of
+from version import WHOLE
 
 # commands whose names are looked up, others of a reader's own, which a host of the gate may lack, and scripts of this
 # repository
 LOOKED_UP = {"make", "systemctl", "journalctl", "apt", "nft", "mkdir", "cp", "find"}
-OTHERS = {"apt-get", "cd", "docker", "dpkg", "exec", "python3", "setcap", "tcpdump", "tshark", "tftp", "tftpd", "tftp-show",
-          "tftp-play"}
+OTHERS = {*"apt-get cd docker dpkg exec python3 setcap tcpdump tshark tftp tftpd tftp-show tftp-play".split()}
 SCRIPTS = {"rt", "boot.sh", "install.sh"}
 # words of systemctl, and the units of other servers, which an operator ends
-VERBS = {"enable", "disable", "start", "stop", "restart", "reload", "status", "edit", "daemon-reload"}
-FOREIGN = {"atftpd", "dnsmasq", "inetd", "tftpd-hpa"}
+OF_SYSTEMD = {*("enable disable start stop restart reload status edit daemon-reload "
+                "atftpd dnsmasq inetd tftpd-hpa").split()}
 # what parts two commands of a line
 BETWEEN = re.compile(r" *(?:&&|\|\||[;|]) *")
 # what stands for a name of the reader's
@@ -27,49 +28,44 @@ FOLDERS = ("bench", "completions", "crates", "debian", "docs", "examples", "incl
 VARIABLE = re.compile(r"^\w+=")
 
 
-def version() -> str:
-    return re.findall(r"(?m)^VERSION := (\S+)$", (TOP / "Makefile").read_text())[0]
-
-
 @lru_cache(None)
 def targets() -> set[str]:
     """The targets of the Makefile, and of that of the archive of assembly."""
     text = "\n".join((TOP / place / "Makefile").read_text() for place in (".", "ports/assembly"))
-    heads = re.findall(r"(?m)^([\w./ -]+?)(?: &)?:(?!=)", text)
-    return {name for head in heads for name in head.split()}
+    return {name for head in re.findall(r"(?m)^([\w./ -]+?)(?: &)?:(?!=)", text) for name in head.split()}
 
 
 @lru_cache(None)
 def packages() -> set[str]:
     """The packages for Debian, by the names of their files."""
     names = [path.suffix.lstrip(".") or "fanjuvery" for path in (TOP / "debian").glob("control*")]
-    return {f"./{name}_{version()}_{kind}.deb" for name in names for kind in ("amd64", "arm64")}
+    return {f"./{name}_{WHOLE}_{kind}.deb" for name in names for kind in ("amd64", "arm64")}
 
 
 def is_unit(word: str) -> bool:
     name = re.sub(r"@.*", "@", word)
-    kinds = [""] if name.endswith((".service", ".socket")) else [".service", ".socket"]
-    return any((TOP / "packaging" / f"{name}{kind}").is_file() for kind in kinds)
+    return any((TOP / "packaging" / f"{name}{kind}").is_file() for kind in ("", ".service", ".socket"))
 
 
-def of_word(head: str, before: str, word: str) -> list[str]:
+def of_word(head: str, before: str, word: str) -> Iterator[str]:
     """What is not there of the names in a word of a command, behind another word."""
     name, _, value = word.partition("=")
-    if head == "make" and name in ("CRATE", "CRATES"):
-        return [f"no crate {it}" for it in value.split() if it != "NAME" and not (TOP / "crates" / it).is_dir()]
     is_name = not word.startswith("-") and not VARIABLE.match(word)
-    if head == "make" and is_name and word not in targets():
-        return [f"no target {word}"]
-    if head in ("systemctl", "journalctl") and is_name and before not in ("-p", "-n", "-o", "--since"):
-        return [] if word in VERBS | FOREIGN or word.startswith("@") or is_unit(word) else [f"no unit {word}"]
-    if head == "apt" and re.match(r"\./.*\.deb$", word) and word not in packages():
-        return [f"no package {word}"]
-    if head == "nft" and before == "-f" and word != "-" and not (TOP / "packaging" / Path(word).name).is_file():
-        return [f"no file {word}"]
-    # of the folders of the system only the one that the units serve is named
-    served = settings_of("tftpd.service").get("ROOT", "/srv/tftp")
-    is_other = head in ("mkdir", "cp", "find") and word.startswith("/srv") and word != served
-    return [f"no folder {word} of the units"] if is_other else []
+    match head:
+        case "make" if name in ("CRATE", "CRATES"):
+            yield from (f"no crate {it}" for it in value.split() if it != "NAME" and not (TOP / "crates" / it).is_dir())
+        case "make" if is_name and word not in targets():
+            yield f"no target {word}"
+        case "systemctl" | "journalctl" if is_name and before not in ("-p", "-n", "-o", "--since"):
+            if word not in OF_SYSTEMD and not word.startswith("@") and not is_unit(word):
+                yield f"no unit {word}"
+        case "apt" if re.match(r"\./.*\.deb$", word) and word not in packages():
+            yield f"no package {word}"
+        case "nft" if before == "-f" and word != "-" and not (TOP / "packaging" / Path(word).name).is_file():
+            yield f"no file {word}"
+        # of the folders of the system only the one that the units serve is named
+        case "mkdir" | "cp" | "find" if word.startswith("/srv") and word != settings_of("tftpd.service")["ROOT"]:
+            yield f"no folder {word} of the units"
 
 
 def is_lost(word: str, folder: Path) -> bool:
@@ -94,10 +90,9 @@ def of_line(line: str, folder: Path, options: Mapping[str, set[str]]) -> list[st
 
 def of_command(command: str, folder: Path, options: Mapping[str, set[str]]) -> Iterator[str]:
     """What is not there of the names in one command."""
-    try:
+    words = list[str]()
+    with suppress(ValueError):
         words = shlex.split(command, comments=True)
-    except ValueError:
-        return
     while words and (VARIABLE.match(words[0]) or words[0] in ("exec", "sudo")):
         words = words[1:]
     if not words or ANY_NAME.search(words[0]):

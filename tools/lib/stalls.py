@@ -10,19 +10,17 @@ class Stalls:
     """Measures until it is closed. `longest_since` is the longest stall that ended after some time."""
 
     def __init__(self) -> None:
-        self.found: list[tuple[float, float]] = []
-        self.is_over = threading.Event()
+        self.found, self.is_over = list[tuple[float, float]](), threading.Event()
         self.thread = threading.Thread(target=self.run, daemon=True)
         self.thread.start()
 
     def run(self) -> None:
-        while not self.is_over.is_set():
-            before = time.monotonic()
-            time.sleep(0.05)
+        before = time.monotonic()
+        while not self.is_over.wait(0.05):
             now = time.monotonic()
-            late = now - before - 0.05
-            if late > 0.02:
+            if (late := now - before - 0.05) > 0.02:
                 self.found.append((now, late))
+            before = time.monotonic()
 
     def longest_since(self, begun: float = 0) -> float:
         return max((late for ended, late in list(self.found) if ended >= begun), default=0.0)

@@ -7,19 +7,22 @@ import random
 import re
 import subprocess
 import tempfile
-import time
 from concurrent.futures import ThreadPoolExecutor
+from dataclasses import dataclass
 from functools import partial
 from pathlib import Path
-from typing import Any, Callable, Iterator, Optional
+from types import SimpleNamespace
+from typing import Any, Callable, Iterator
 
 from lib import others
 from lib.addresses import own_network
-from lib.ends import ack, expect, free_ports, is_bound
+from lib.ends import expect, free_ports, is_bound, wait_until
 from lib.examples import run
 from lib.scene import Scene, next_line
 
 PATIENCE = 300
+# how an example runs
+ALONE: dict[str, Any] = {"stdin": subprocess.DEVNULL, "capture_output": True, "timeout": PATIENCE}
 # How many trials run at a time: they wait more than they compute
 AT_ONCE = 10
 # How often a transfer through a bad network is tried, and how an example says that it was not complete: its peer has
@@ -63,11 +66,13 @@ def puts(example) -> bool:
     return example.startswith("put")
 
 
+@dataclass
 class Site:
     """A server, and the network to it: each transfer through a bad one has a proxy of its own."""
-
-    def __init__(self, name, scene, server, lossy) -> None:
-        self.name, self.scene, self.server, self.lossy = name, scene, server, lossy
+    name: str
+    scene: Any
+    server: Any
+    lossy: bool
 
     def way(self, seed) -> list[str]:
         """Its address as two words."""
@@ -81,7 +86,7 @@ def transfers(site, built, example, seed, length, blksize, compare=None) -> None
     for number in range(TRIES if site.lossy else 1):
         stored = f"{re.sub('[^a-z0-9]', '', example.lower())}{length}.{number}"
         how = words_of(example, built, site.way(seed + 100 * number), f"f{length}", stored, blksize)
-        done = subprocess.run(**how, cwd=scene.folder, stdin=subprocess.DEVNULL, capture_output=True, text=True, timeout=PATIENCE)
+        done = subprocess.run(**how, cwd=scene.folder, **ALONE, text=True)
         if done.returncode == 0:
             if site.name == "atftpd" and puts(example):
                 has_written(scene.folder / stored, length)
@@ -100,13 +105,15 @@ def refused(site, built, example) -> None:
 
 def has_written(path, length) -> None:
     """Waits until atftpd has written a file that was put: it acknowledges the last block before that."""
-    end = time.monotonic() + PATIENCE
-    while not (path.is_file() and path.stat().st_size >= length) and time.monotonic() < end:
-        time.sleep(0.05)
+    wait_until(lambda: path.is_file() and path.stat().st_size >= length, f"{length} bytes in {path}")
 
 
 def is_stored(scene, local, length, what) -> None:
     expect((scene.folder / local).read_bytes(), content(length), f"what {what} stored of {length} bytes")
+
+
+def lengths(built, lossy) -> list[int]:
+    return FEW if lossy or built.is_slow else LENGTHS
 
 
 def at_server(site, built, put=True) -> None:
@@ -119,10 +126,6 @@ def at_server(site, built, put=True) -> None:
         for example in examples:
             jobs.append(partial(transfers, site, built, example, len(jobs), length, [0, 1428][number % 2]))
     together(jobs)
-
-
-def lengths(built, lossy) -> list[int]:
-    return FEW if lossy or built.is_slow else LENGTHS
 
 
 # ---- tftpd
@@ -147,10 +150,9 @@ def in_netascii(scene, built, server) -> None:
     """A text with every line end is put in netascii and read again, in both modes, and is the same."""
     text = content(2_000) + b"\n\r\r\n" * 300
     scene.make("text", text)
-    way = server.word.split(":")
 
-    def moves(verb, language, name, local, blksize, *mode) -> None:
-        how = words_of(f"{verb}{language}", built, way, name, local, blksize, *mode)
+    def moves(verb, language, name, local, *more) -> None:
+        how = words_of(f"{verb}{language}", built, server.word.split(":"), name, local, *more)
         run(*how["args"], cwd=scene.folder, env=how["env"])
 
     def is_same(language) -> None:
@@ -165,17 +167,16 @@ def in_netascii(scene, built, server) -> None:
 
 # ---- the example that serves files in memory
 
-def serving_port(scene) -> "At":
-    """A port of the scene's address that nothing is bound to, and that the system chooses for no other socket
-    meanwhile."""
-    return At(scene.address, free_ports(1))
+def place(host, number) -> Any:
+    """Where a server is to listen."""
+    return SimpleNamespace(address=(host, number), word=f"{host}:{number}")
 
 
 def serves(scene, built) -> tuple[Any, Any]:
     """Starts the server of files in memory, and returns where it is, and the process."""
     for name, length in [("disk", 3_000), *((f"f{length}", length) for length in FEW)]:
         scene.make(name, content(length))
-    at = serving_port(scene)
+    at = place(scene.address, free_ports(1))
     words = built.command("serve", *at.address, "memory=disk", *[f"f{length}=f{length}" for length in FEW])
     process = scene.start(words[0], words[1:])
     expect(next_line(process.stdout), "serving\n", "the first line of serve")
@@ -204,46 +205,24 @@ def by_library(scene, built, lossy) -> None:
                       is_read_by_tftp if puts(it) else None) for seed, it in enumerate(examples)]
              + [partial(is_read_by_tftp, scene, "memory", 3_000, "memory", 10)])
     run(*built.command("get", *way, "none", "none.got"), cwd=scene.folder, status=1)
-    is_aborted(scene, built, way, process)
-    is_shown(scene, built, way)
+    # of a get whose file cannot be stored, as on a disk that is full, its server has an ERROR, and ends the transfer by
+    # that (outcome 3): a client that left in silence would time out (outcome 2)
+    run(*built.command("get", *way, "memory", "/dev/full"), cwd=scene.folder, status=1)
+    lines = iter(lambda: next_line(process.stdout), "")
+    outcomes = (line.split(" outcome ")[1] for line in lines if re.search("read memory.* outcome [^1]", line))
+    expect(next(outcomes, ""), "3\n", "how a get of /dev/full has ended at its server")
+    # the example of the manual gets a file to its standard output
+    done = subprocess.run(built.command("manual", *way, f"f{FEW[0]}"), **ALONE)
+    expect((done.stderr, done.stdout), (b"complete\n", content(FEW[0])), "what the manual's example gets")
     in_netascii(scene, built, server)
     ended(process)
 
 
-def is_aborted(scene, built, way, process) -> None:
-    """A get whose file cannot be stored, as on a disk that is full: its server has an ERROR in place of a silent
-    client, and ends the transfer at once. A client that leaves in silence is one that has timed out (outcome 2)."""
-    run(*built.command("get", *way, "memory", "/dev/full"), cwd=scene.folder, status=1)
-    begun = time.monotonic()
-    while "read memory" not in (line := next_line(process.stdout)) or not re.search("outcome [^1]", line):
-        expect(line != "", True, "that serve says how the get of /dev/full has ended")
-    expect(line.split(" outcome ")[1], "3\n", "how a get of /dev/full has ended at its server")
-    expect(time.monotonic() - begun < (60 if built.is_slow else 20), True, "that the server did not wait for it")
+# ---- other projects' servers and clients
 
-
-def is_shown(scene, built, way) -> None:
-    """The example of the manual gets a file to its standard output."""
-    with (scene.folder / "shown").open("wb") as shown:
-        done = subprocess.run(built.command("manual", *way, f"f{FEW[0]}"), stdin=subprocess.DEVNULL,
-                              stdout=shown, stderr=subprocess.PIPE, timeout=PATIENCE)
-    expect((done.returncode, done.stderr), (0, b"complete\n"), "how the manual's example has ended")
-    is_stored(scene, "shown", FEW[0], "the manual's example")
-
-
-# ---- other projects' servers
-
-class At:
-    """A server at this address."""
-
-    def __init__(self, host, number) -> None:
-        self.word, self.address = f"{host}:{number}", (host, number)
-
-
-# Each by its program: whether it takes puts; and with which more words it acknowledges a last DATA that comes again a
-# second later: an in.tftpd (5.2) does once, for as long as it waits at first, which is a second by itself; an atftpd
-# (0.8) has forgotten the transfer. A dnsmasq (2.90) takes no put.
-PEERS: dict[str, tuple[bool, Optional[list[str]]]] = {
-    "in.tftpd": (True, ["--retransmit", "2500000"]), os.environ.get("ATFTPD", "atftpd"): (True, None), "dnsmasq": (False, None)}
+# Each server by its program: whether it takes puts, and further words of it: an atftpd repeats a block after a second
+ATFTPD = os.environ.get("ATFTPD", "atftpd")
+PEERS = {"in.tftpd": (True, []), ATFTPD: (True, ["--retry-timeout", "1"]), "dnsmasq": (False, list[str]())}
 
 
 def peers() -> list[str]:
@@ -251,14 +230,12 @@ def peers() -> list[str]:
     return [name for name in PEERS if os.geteuid() == 0 and others.is_installed(name)]
 
 
-def started(scene, peer, *more) -> At:
-    """Starts it over the folder, with these words, too, and returns where it is."""
+def started(scene, peer) -> Any:
+    """Starts it over the folder, and returns where it is."""
     os.chmod(scene.folder, 0o777)
-    at = At(scene.address, 69) if peer == "dnsmasq" else serving_port(scene)
+    at = place(scene.address, 69 if peer == "dnsmasq" else free_ports(1))
     command, *words = others.server(peer, at.address, scene.folder)
-    # (an atftpd repeats a block after a second)
-    more = (*more, "--retry-timeout", "1") if "--logfile" in words else more
-    process = scene.start(command, [*more, *words], stdout=subprocess.DEVNULL, stderr=subprocess.DEVNULL)
+    process = scene.start(command, [*PEERS[peer][1], *words], stdout=subprocess.DEVNULL, stderr=subprocess.DEVNULL)
     is_bound(at.word, process)
     return at
 
@@ -267,35 +244,6 @@ def by_peer(scene, built, lossy, peer) -> None:
     """The clients against another project's server over the folder."""
     at_server(Site(Path(peer).name, scene, started(scene, peer), lossy), built, PEERS[peer][0])
 
-
-class Loses:
-    """A direction in which the first of this datagram is lost, and no other."""
-
-    def __init__(self, datagram=None) -> None:
-        self.datagram = datagram
-
-    def number(self) -> int:
-        return 20
-
-    def sent_for(self, datagram) -> list[bytes]:
-        is_lost, self.datagram = datagram == self.datagram, None if datagram == self.datagram else self.datagram
-        return [] if is_lost else [datagram]
-
-
-def last_ack(scene, built, peer) -> None:
-    """A put whose last ACK is lost. It is complete where the server acknowledges a DATA that comes again; where it
-    does not, the put is not complete, and says so, although the file is stored."""
-    again = PEERS[peer][1]
-    proxy = scene.proxy(started(scene, peer, *(again or [])), 0)
-    proxy.to_server, proxy.to_client = Loses(), Loses(ack(2))
-    scene.make("f513", content(513))
-    printed = run(*built.command("put", *proxy.word.split(":"), "f513", "put"), cwd=scene.folder,
-                  status=0 if again else 1)
-    expect(printed.split(",")[0], "complete" if again else "timed out", "how a put ended whose last ACK was lost")
-    is_stored(scene, "put", 513, peer)
-
-
-# ---- other projects' clients
 
 # The clients whose gets go through a bad network, too, and whose puts do not. A curl (7.88) sends a DATA again after
 # 72 seconds, when a server that has stored the last one has ended its dally; it takes an OACK that comes twice for a
@@ -336,8 +284,6 @@ def trials_of(built) -> Iterator[tuple[str, Any]]:
             yield f"{server}, {network}", partial(test, built=built, lossy=lossy)
     if built.has("serve"):
         yield "header and memory", partial(layout, built=built)
-        for peer in [it for it in peers() if PEERS[it][0]]:
-            yield f"{Path(peer).name}, last ACK", partial(last_ack, built=built, peer=peer)
 
 
 def tried(trials, programs, room=None) -> None:

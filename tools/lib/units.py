@@ -15,10 +15,4 @@ def settings_of(unit: str) -> dict[str, str]:
 def arguments_of(unit: str) -> list[str]:
     """The arguments that a unit starts tftpd with; `%t` and `%i` are as they stand there."""
     found = re.search(r'(?m)^ExecStart="[^"]+" (.*)$', (TOP / "packaging" / unit).read_text())
-    settings, arguments = settings_of(unit), []
-    for word in found[1].split() if found else []:
-        if re.fullmatch(r"\$\w+", word):
-            arguments += settings[word[1:]].split()
-        else:
-            arguments.append(re.sub(r"\$\{(\w+)\}", lambda name: settings[name[1]], word))
-    return arguments
+    return re.sub(r"\$\{?(\w+)\}?", lambda name: settings_of(unit)[name[1]], found[1] if found else "").split()

@@ -45,8 +45,8 @@ module _ {D G H W F E : Type 0} (log : D → List DiskEvent)
     (meaning : StoreMeaning (FolderStore D G H W) (FolderDraft E)) (sources : SourceMeaning F) where
   -- a run of a server that a configuration has, over a disk of which nothing was asked before, from
   -- a state to another
-  pub record RunsConfig (config : DaemonConfig) (first last : LoopState (FolderStore D G H W) F (FolderDraft E))
-      : Type 0 where
+  pub record RunsConfig (config : DaemonConfig)
+      (first last : LoopState (FolderStore D G H W) F (FolderDraft E)) : Type 0 where
     pub is_server : IsServerOf log [] config first.server
     pub run : Run (LoopStep meaning sources) first last
 
@@ -59,8 +59,8 @@ module _ {D G H W F E : Type 0} (log : D → List DiskEvent)
   RunStaysWithin =
       (config : DaemonConfig) (first last : LoopState (FolderStore D G H W) F (FolderDraft E))
       → RunsConfig config first last
-      → HasOfServer (IsWithin log (limits_of first.server.store)) (IsOwnDraft (limits_of first.server.store))
-      last.server
+      → HasOfServer (IsWithin log (limits_of first.server.store))
+      (IsOwnDraft (limits_of first.server.store)) last.server
 
   -- with `--read-only` nothing was changed: no file was made, named or removed, and no folder
   -- synced, whatever the answers

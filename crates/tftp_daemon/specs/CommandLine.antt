@@ -171,8 +171,8 @@ NamesInRows rows config = NamesServer (read_in rows) (words_in rows (codes "list
 -- processors
 abbrev pub StartsInRows : ℕ → List Row → DaemonConfig → Type 0
 StartsInRows processors rows config =
-    ServersFor processors (length (words_in rows (codes "listen"))) (first_of (codes "servers") rows)
-    config.instance.servers
+    ServersFor processors (length (words_in rows (codes "listen")))
+    (first_of (codes "servers") rows) config.instance.servers
 
 -- what holds of the configuration that a command line has the program serve by
 abbrev pub IfRun : CommandLine → (DaemonConfig → Type 0) → Type 0

@@ -75,14 +75,14 @@ abbrev pub drafts_in : List ℕ → Option (List ℕ) → List ℕ
 drafts_in root None = root
 drafts_in root (Some folder) = path_below root folder
 
-module _ {B G H W F D : Type 0} (meaning : StoreMeaning (FolderStore B G H W) D) (sources : SourceMeaning F)
-  where
-    -- a server ran over UDP, from one history to the other, and its result has this status
-    pub record RunsService (service : LoopConfig) (server : ServerState (FolderStore B G H W) F D)
-        (status : ℕ) (before after : List SocketEvent) : Type 0 where
-      pub result : Result (Unit {0}) LoopFault
-      pub is_status : status ≡ daemon_status result
-      pub serves : RunsServer meaning sources service server result before after
+module _ {B G H W F D : Type 0} (meaning : StoreMeaning (FolderStore B G H W) D)
+    (sources : SourceMeaning F) where
+  -- a server ran over UDP, from one history to the other, and its result has this status
+  pub record RunsService (service : LoopConfig) (server : ServerState (FolderStore B G H W) F D)
+      (status : ℕ) (before after : List SocketEvent) : Type 0 where
+    pub result : Result (Unit {0}) LoopFault
+    pub is_status : status ≡ daemon_status result
+    pub serves : RunsServer meaning sources service server result before after
 
 module _ {B G H W F D : Type 0} (log : B → List DiskEvent) (start : List DiskEvent) where
   -- the server of a configuration, which is valid, without transfers: its limits, and a store over

@@ -4,7 +4,8 @@ use Rattle.clap.specs.Simple.{matches_of}
 use Rattle.tftp_arguments.specs.Read.{read_in}
 use Rattle.tftp_status.specs.Datagrams.{datagrams_in}
 use Rattle.tftp_status.specs.StatusEvent.{StatusEvent, told_in}
-use Rattle.tftp_status.specs.StatusFile.{AllOwn, IsTextOf, ReplacesFiles, Status, draft_of, renamed_in}
+use Rattle.tftp_status.specs.StatusFile.{AllOwn, IsTextOf, ReplacesFiles, Status, draft_of}
+use Rattle.tftp_status.specs.StatusFile.{renamed_in}
 use Rattle.tftp_daemon.specs.Reports.{IsOwnFile, IsReportOf}
 use Rattle.tftp_daemon.specs.Words.{WordsConfigure, tftpd_app}
 use Rattle.tftp_daemon.specs.declared.daemon.DaemonConfig.{DaemonConfig}
@@ -24,7 +25,7 @@ abbrev pub WereNoted : List StatusEvent → List StatusEvent → Type 0
 WereNoted by_then events = (later : List StatusEvent) × (events ≡ later ++ by_then)
 
 -- each of these texts, the newest first, is that of what was counted by then: entries, in the order in
--- which they were told, and datagrams
+-- which they were noted, and datagrams
 abbrev pub AreTextsOf : List StatusEvent → List (List ℕ) → Type 0
 AreTextsOf events [] = ⊤
 AreTextsOf events (text ∷ earlier) =
@@ -34,7 +35,7 @@ AreTextsOf events (text ∷ earlier) =
 -- the words name a status file; of a server alone that is its own, and that of one of several has its
 -- number. All that its disk was asked to change is that file and its temporary file; what it removed
 -- or replaced was a regular file, or nothing, by the newest look before; and the files that got its
--- name had the counts of what the server had told by then
+-- name had the counts of what the server had noted by then
 pub record ReportsAlone (words : List (List ℕ)) (status : Status) : Type 0 where
   pub file : List ℕ
   pub asked : AskForStatus words file

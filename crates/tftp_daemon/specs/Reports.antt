@@ -1,13 +1,17 @@
 -- The file of a server's counts, as its configuration names it (own).
-use Rattle.std.specs.Prelude.{ℕ, ◌≡◌, ◌≢◌, ◌==◌, if◌then◌else◌, length, List, [], ◌∷◌, Option, Some, None, Ok, Err, IfSome}
-use Rattle.std.specs.Prelude.{codes, option_map}
+use Rattle.std.specs.Prelude.{ℕ, ◌≡◌, ◌≢◌, ◌==◌, if◌then◌else◌, length, List, [], ◌∷◌, codes}
+use Rattle.std.specs.Prelude.{Option, Some, None, Ok, Err, IfSome, option_map}
 use Rattle.std.specs.Path.{PathStartsWith, path_parent}
+use Rattle.std.specs.String.{string_bytes}
 use Rattle.std.specs.declared.io.Error.{Error}
+use Rattle.tftp_arguments.specs.declared.arguments.TheConstants.{VERSION}
+use Rattle.tftp_ends.specs.declared.endpoint.Endpoint.{Endpoint}
 use Rattle.tftp_disk.specs.DiskTrace.{DiskEvent}
 use Rattle.tftp_disk.specs.DiskTrace.DiskEvent.{Followed, Resolved}
 use Rattle.tftp_disk.specs.declared.found.Found.{Found}
 use Rattle.tftp_status.specs.FileName.{IsFileOf}
 use Rattle.tftp_status.specs.StatusFile.{KeepsCounts, Status, draft_of}
+use Rattle.tftp_status.specs.declared.server_facts.ServerFacts.{ServerFacts}
 use Rattle.tftp_daemon.specs.Refused.{name_in}
 use Rattle.tftp_daemon.specs.declared.daemon.DaemonConfig.{DaemonConfig}
 
@@ -50,10 +54,12 @@ pub data LooksApartFrom (drain own : List ℕ) (before after : List DiskEvent) :
   No_place : (error : Error) → after ≡ Resolved (folder_of own) (Err error) ∷ before
       → LooksApartFrom drain own before after
   No_drain : (place : List ℕ) (error : Error)
-      → after ≡ Resolved (folder_of drain) (Err error) ∷ Resolved (folder_of own) (Ok place) ∷ before
+      → after ≡ Resolved (folder_of drain) (Err error)
+      ∷ Resolved (folder_of own) (Ok place) ∷ before
       → LooksApartFrom drain own before after
   Two : (place other : List ℕ)
-      → after ≡ Resolved (folder_of drain) (Ok other) ∷ Resolved (folder_of own) (Ok place) ∷ before
+      → after ≡ Resolved (folder_of drain) (Ok other)
+      ∷ Resolved (folder_of own) (Ok place) ∷ before
       → (place ≡ other → IsNamedApart drain own) → LooksApartFrom drain own before after
 
 -- so it is of the file that is a server's own
@@ -82,6 +88,13 @@ pub record ReportsAt (config : DaemonConfig) (own : List ℕ) : Type 0 where
   pub is_named : option_map (λ file. file.now) config.status ≡ Some named
   pub is_own : IsOwnFile named config.instance.server own
   pub drains : IfSome config.drain (λ path. (path.now ≢ own) × (path.now ≢ draft_of own))
+
+-- what a status file says of a server of the configuration: its address, which of several it is, the
+-- program's version, and how many transfers may be open
+pub record AreFactsOf (config : DaemonConfig) (at : Endpoint) (server : ServerFacts) : Type 0 where
+  pub labels_are : server.labels ≡ record { address = at; server = config.instance.server }
+  pub version_is : string_bytes server.version ≡ VERSION.now
+  pub limit_is : server.limit ≡ config.config.cap
 
 -- the status file is that of the configuration: at the path that it names, as a new one is, and it
 -- keeps its counts

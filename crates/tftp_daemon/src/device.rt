@@ -1,6 +1,7 @@
 //! The device of a server: its sockets, its request port, its lines, and what it reports.
 
 ghost use Rattle.std.specs.Prelude.{◌≡◌, IfSome, is_some};
+ghost use Rattle.tftp_status.specs.Schedule.{at_start};
 ghost use Rattle.tftp_status.specs.StatusFile.{IsNewAt, KeepsCounts};
 
 use crate::host::Devices;
@@ -44,6 +45,9 @@ impl<N, D: Disk> ServerDevice<N, D> {
         ensures begun { is_some result.reporting.report ≡ is_some setup.reports }
         ensures file { IfSome setup.reports (λ settings. IfSome result.reporting.report
             (λ report. IsNewAt settings.paths report.status)) }
+        ensures server { IfSome setup.reports (λ settings. IfSome result.reporting.report
+            (λ report. report.server ≡ settings.server)) }
+        ensures due { IfSome result.reporting.report (λ report. report.schedule ≡ at_start) }
     {
         ServerDevice {
             net,
@@ -230,6 +234,15 @@ impl<N: ServerUdp + Eprint, D: Disk> Eprint for ServerDevice<N, D> {
 
     /// Writes a line with its time and with which server it is of, if lines have them.
     fn eprintln<T: Display + Drop>(&self, value: T) -> io::Result<()> {
-        self.stamp.write(&self.net, self.alloc, value)
+        if self.stamp.is_empty() {
+            return self.net.eprintln(value);
+        }
+        let words = format!(in self.alloc; "{value}")?;
+        let millis = if self.stamp.has_time {
+            self.net.utc_millis()
+        } else {
+            None
+        };
+        self.net.eprintln(self.stamp.line(words.as_str(), millis))
     }
 }

@@ -19,7 +19,9 @@ pub(crate) struct DrainFile<'a, L> {
 
 impl<'a, L> DrainFile<'a, L> {
     /// The signal of the file at this path, if there is one.
-    pub(crate) fn new(looks: L, path: Option<&'a str>) -> DrainFile<'a, L> {
+    pub(crate) fn new(looks: L, path: Option<&'a str>) -> DrainFile<'a, L>
+        ensures { result.path ≡ path.entry }
+    {
         DrainFile {
             looks: RefCell::new(looks),
             path,

@@ -1,5 +1,8 @@
 //! What standard error writes to.
 
+ghost use Rattle.std.specs.Prelude.{◌≡◌, ◌↔◌, IsTrue};
+ghost use Rattle.tftp_daemon.specs.declared.error_output.ErrorOutput.TheVariants.{Journal};
+
 use std::os::unix::fs::MetadataExt;
 use std::rt::Runtime;
 use std::{env, fs};
@@ -8,7 +11,7 @@ use std::{env, fs};
 #[derive(Clone, Copy)]
 pub enum ErrorOutput {
     /// The journal of systemd, which takes a priority off a line.
-    Trace,
+    Journal,
     /// A terminal, a file, a pipe or another device.
     Other,
 }
@@ -24,16 +27,18 @@ impl ErrorOutput {
             return ErrorOutput::Other;
         };
         if names(stream.as_str(), errors.dev(), errors.ino()) {
-            ErrorOutput::Trace
+            ErrorOutput::Journal
         } else {
             ErrorOutput::Other
         }
     }
 
     /// Whether a line begins with its priority.
-    pub(crate) fn has_priority(self) -> bool {
+    pub(crate) fn has_priority(self) -> bool
+        ensures { IsTrue result ↔ (self ≡ Journal) }
+    {
         match self {
-            ErrorOutput::Trace => true,
+            ErrorOutput::Journal => true,
             ErrorOutput::Other => false,
         }
     }

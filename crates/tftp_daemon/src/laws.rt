@@ -93,7 +93,7 @@ pub fn a_run_changes_its_uploads_alone<D: Disk>()
 /// On its second disk a run changes the file that its arguments name by `--status`, and the temporary
 /// file of that, alone; one of several servers has its number in the name. What it removes or replaces
 /// there was a regular file, or nothing, by the newest look before. Each text that got the name is that
-/// of what was counted by then: what the server had told, and its datagrams. Its other lines are
+/// of what was counted by then: what the server had noted, and its datagrams. Its other lines are
 /// comments. Without `--status` there is no report.
 /// Whatever the arguments, what is left of a run's report is such a one (`tftpd_on`: `reports`).
 pub fn a_run_reports_in_its_file_alone()

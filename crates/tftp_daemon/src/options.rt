@@ -7,8 +7,8 @@ ghost use Rattle.clap.specs.Simple.{App};
 ghost use Rattle.tftp_server.specs.Config.{default_config};
 ghost use Rattle.tftp_arguments.specs.Rules.{HasRule, IsApp, by_default, flag_rule, within};
 ghost use Rattle.tftp_daemon.specs.Words.{any_number, bare_app, option_rule, repeated, tftpd_app};
-ghost use Rattle.tftp_daemon.specs.Words.{with_ending, with_folder_and_ports, with_limits, with_log};
-ghost use Rattle.tftp_daemon.specs.Words.{with_servers, with_writes};
+ghost use Rattle.tftp_daemon.specs.Words.{with_ending, with_folder_and_ports, with_limits};
+ghost use Rattle.tftp_daemon.specs.Words.{with_log, with_servers, with_writes};
 
 use anyhow::Result;
 use clap::{Arg, ArgAction, Command, value_parser};

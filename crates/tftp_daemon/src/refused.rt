@@ -3,7 +3,8 @@
 //! `clap` would look at options that exclude or need one another, too, but then its contract would
 //! say nothing of the words that it refuses.
 
-ghost use Rattle.std.specs.Prelude.{◌≡◌, ◌≢◌, ◌↔◌, codes, map, IfNone, IfOk, IsTrue, OnSome, option_map};
+ghost use Rattle.std.specs.Prelude.{◌≡◌, ◌≢◌, ◌↔◌, codes, map, option_map};
+ghost use Rattle.std.specs.Prelude.{IfNone, IfOk, IsTrue, OnSome};
 ghost use Rattle.std.specs.List.{list_any};
 ghost use Rattle.std.specs.Path.{PathStartsWith};
 ghost use Rattle.std.specs.Str.{bytes_eq};

@@ -2,7 +2,7 @@
 
 ghost use Rattle.std.specs.Prelude.{◌≡◌, IfOk, IfSome, is_some};
 ghost use Rattle.tftp_daemon.specs.Configured.{ListensAt, stamp_of};
-ghost use Rattle.tftp_daemon.specs.Reports.{ReportsAt};
+ghost use Rattle.tftp_daemon.specs.Reports.{AreFactsOf, ReportsAt};
 
 use crate::daemon::{DaemonConfig, DaemonFault, Instance};
 use crate::listen::Listen;
@@ -37,6 +37,8 @@ pub(crate) fn setup_of<N: ServerUdp>(
     ensures begun { IfOk result (λ setup. is_some setup.reports ≡ is_some config.now.status) }
     ensures file { IfOk result (λ setup. IfSome setup.reports
         (λ settings. ReportsAt config.now settings.paths)) }
+    ensures server { IfOk result (λ setup. IfSome setup.reports
+        (λ settings. AreFactsOf config.now setup.port.at settings.server)) }
 {
     let port = request_port(input, config)?;
     if let Err(error) = watch_supervisor(net, alloc, config) {

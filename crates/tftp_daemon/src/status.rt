@@ -5,8 +5,9 @@ ghost use Rattle.std.specs.Prelude.{is_some};
 ghost use Rattle.std.specs.String.{string_bytes};
 ghost use Rattle.tftp_status.specs.StatusFile.{draft_of};
 ghost use Rattle.tftp_daemon.specs.Refused.{is_name, name_in, names_file};
-ghost use Rattle.tftp_daemon.specs.Reports.{HasLooked, IsOwnFile, LooksApart, LooksApartFrom};
-ghost use Rattle.tftp_daemon.specs.Reports.{LooksOutside, ReportsAt, folder_of, or_here};
+ghost use Rattle.tftp_daemon.specs.Reports.{AreFactsOf, HasLooked, IsOwnFile, LooksApart};
+ghost use Rattle.tftp_daemon.specs.Reports.{LooksApartFrom, LooksOutside, ReportsAt, folder_of};
+ghost use Rattle.tftp_daemon.specs.Reports.{or_here};
 
 use crate::daemon::{DaemonConfig, DaemonFault, StatusFault};
 use std::alloc::{AllocError, Global};
@@ -15,7 +16,7 @@ use tftp_arguments::VERSION;
 use tftp_disk::{Disk, Looks};
 use tftp_ends::Endpoint;
 use tftp_sockets::ServerUdp;
-use tftp_status::{Labels, ReportSettings, StatusPaths, file_of_server};
+use tftp_status::{Labels, ReportSettings, ServerFacts, StatusPaths, file_of_server};
 
 /// Refuses a status file in the folder of a configuration, and one that is the file of `--drain`,
 /// wherever links lead. Without one it asks nothing.
@@ -220,6 +221,8 @@ pub(crate) fn report_settings<N: ServerUdp>(
     ensures begun { IfOk result (λ settings. is_some settings ≡ is_some config.now.status) }
     ensures file { IfOk result (λ settings. IfSome settings
         (λ settings. ReportsAt config.now settings.paths)) }
+    ensures server { IfOk result (λ settings. IfSome settings
+        (λ settings. AreFactsOf config.now at settings.server)) }
 {
     let Some(file) = config.status else {
         return Ok(None);
@@ -229,9 +232,24 @@ pub(crate) fn report_settings<N: ServerUdp>(
     if is_drain(config.drain, paths.file(), paths.draft()) {
         return Err(DaemonFault::Status(StatusFault::Drain));
     }
-    let version = String::from_str(alloc, VERSION)?;
     Ok(Some(ReportSettings {
         paths,
+        server: server_facts(net, alloc, config, at)?,
+    }))
+}
+
+/// What a status file says of a server of this configuration, whose requests arrive at this endpoint,
+/// and which starts now.
+fn server_facts<N: ServerUdp>(
+    net: &N,
+    alloc: Global,
+    config: &DaemonConfig<'_>,
+    at: Endpoint,
+) -> Result<ServerFacts, AllocError>
+    ensures { IfOk result (λ server. AreFactsOf config.now at server) }
+{
+    let version = String::from_str(alloc, VERSION)?;
+    Ok(ServerFacts {
         labels: Labels {
             address: at,
             server: config.instance.server,
@@ -239,7 +257,7 @@ pub(crate) fn report_settings<N: ServerUdp>(
         version,
         limit: u64::from(config.config.cap),
         start: start_of(net),
-    }))
+    })
 }
 
 /// The time in seconds since 1970 began in UTC; 0 if the clock cannot be read.

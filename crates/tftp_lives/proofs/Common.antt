@@ -28,6 +28,7 @@ pub use Rattle.tftp_ends.specs.declared.outcome.Outcome.{Outcome}
 pub use Rattle.tftp_ends.specs.declared.phase.Phase.{Phase}
 pub use Rattle.tftp_ends.specs.declared.phase.Phase.TheVariants.{Receiving, Sending, Waiting, Dallying, Closed}
 pub use Rattle.tftp_ends.specs.declared.phase.Terms.{Terms}
+pub use Rattle.tftp_ends.specs.declared.role.Role.{Role}
 pub use Rattle.tftp_ends.specs.declared.side.Side.{Side}
 pub use Rattle.tftp_lives.specs.Lives.{Act, Took, newest, Said, with_reply, Timed, Has, Lost, IsNext, next_of, Life}
 pub use Rattle.tftp_lives.specs.Lives.{Opens, Hears, Loses, Times, timed}

@@ -1,15 +1,15 @@
 -- Every end stands so by what it has heard and sent.
 use Rattle.tftp_lives.proofs.Common.{◌≡◌, ℕ, true, false, List, ◌∷◌, Option, sym, ap, ◌∙◌, subst, inl, inr, is_some}
-use Rattle.tftp_lives.proofs.Common.{true≢false, SourceMeaning, SinkMeaning, Files, Endpoint, Outcome, Phase, Waiting}
-use Rattle.tftp_lives.proofs.Common.{Sending, Receiving, Dallying, Closed, datagram_action, EndState, is_complete}
+use Rattle.tftp_lives.proofs.Common.{true≢false, SourceMeaning, SinkMeaning, Files, Endpoint, Outcome, Phase}
+use Rattle.tftp_lives.proofs.Common.{Dallying, Closed, datagram_action, EndState, is_complete}
 use Rattle.tftp_lives.proofs.Common.{outcome_of, IsOpen, Turn, Acts, after_turn, with_position, Act, Took, Life, Opens}
 use Rattle.tftp_lives.proofs.Common.{Hears, Loses, Times, with_reply, Begins}
 use Rattle.tftp_ends.specs.Step.{DatagramStep}
-use Rattle.tftp_lives.proofs.Stands.{Stands, Asks, Gives, Takes, Over}
+use Rattle.tftp_lives.proofs.Stands.{Stands, Goes, Over}
 use Rattle.tftp_lives.proofs.StandsMore.{stands_lost}
 use Rattle.tftp_lives.proofs.OpenEnds.{in_phase_of, still_copied}
 use Rattle.tftp_lives.proofs.StandOpens.{begins_so}
-use Rattle.tftp_lives.proofs.StandSteps.{asks_goes, dallies_on, gives_goes, takes_goes}
+use Rattle.tftp_lives.proofs.StandSteps.{dallies_on, knows_goes}
 use Rattle.tftp_lives.proofs.StandTimes.{waits}
 
 -- ---- after a datagram
@@ -30,28 +30,17 @@ module _ {S K : Type 0} (sources : SourceMeaning S) (sinks : SinkMeaning K) (fro
     goes_in p is goes = subst Going (sym is) goes d.acts
 
     over_goes : (p : Phase) → is_some (outcome_of p) ≡ false → is_complete p ≡ true → Going p
-    over_goes (Waiting asked limit) o complete = absurd (true≢false (sym complete))
-    over_goes (Sending t n) o complete = absurd (true≢false (sym complete))
-    over_goes (Receiving t n) o complete = absurd (true≢false (sym complete))
     over_goes (Dallying t n dally) o complete =
         λ made. dallies_on sources sinks e from bytes acts t n dally d.decoded turn files files' made
     over_goes (Closed t n done outcome) o complete = absurd (true≢false o)
+    over_goes p o complete = absurd (true≢false (sym complete))
 
     hears : IsOpen e → Stands acts e →
         Stands (with_reply turn.reply (Took from bytes ∷ acts)) (after_turn e turn)
-    hears o (Asks asked limit is client askable none c) =
-        let p = Waiting asked limit in
+    hears o (Goes p is k c) =
         goes_in p (in_phase_of e p o is)
-        (λ made. asks_goes sources sinks e from bytes acts asked limit client askable none (still_copied e p o is acts c) d.decoded d.says turn files
+        (λ made. knows_goes sources sinks e from bytes acts p k (still_copied e p o is acts c) d.decoded d.says turn files
         files' made)
-    hears o (Gives t n is g f c) =
-        let p = Sending t n in
-        goes_in p (in_phase_of e p o is)
-        (λ made. gives_goes sources sinks e from bytes acts t n g f (still_copied e p o is acts c) d.decoded d.says turn files files' made)
-    hears o (Takes t n is g c) =
-        let p = Receiving t n in
-        goes_in p (in_phase_of e p o is)
-        (λ made. takes_goes sources sinks e from bytes acts t n g (still_copied e p o is acts c) d.decoded d.says turn files files' made)
     hears o (Over (inl complete)) = over_goes e.position.phase o complete d.acts
     hears o (Over (inr closes)) =
         absurd (true≢false (sym (ap (λ (z : Option Outcome). is_some z) closes.1) ∙ o))

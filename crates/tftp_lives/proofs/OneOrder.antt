@@ -1,4 +1,5 @@
 -- The acts of two ends in one order: where each stands, and how many timeouts there are.
+use Rattle.std.proofs.Common.{rules}
 use Rattle.tftp_lives.proofs.Common.{◌≡◌, ℕ, ◌+◌, ◌≤◌, suc, Bool, true, false, List, [], ◌∷◌, ◌++◌, length, Some, None}
 use Rattle.tftp_lives.proofs.Common.{refl, sym, ap, ◌∙◌, subst, arith, inl, inr, Endpoint, Act, Took, Lost, Said, Timed}
 use Rattle.tftp_lives.proofs.Common.{Has, IsNext, next_of, timed}
@@ -21,13 +22,18 @@ split_at {T = T} x (y ∷ ys) (inl e) = ([], ys, ap (λ (z : T). z ∷ ys) e)
 split_at {T = T} x (y ∷ ys) (inr h) =
     let s = split_at x ys h in (y ∷ s.0, s.1, ap (λ (zs : List T). y ∷ zs) s.2)
 
--- the one that is there is one of them
-pub has_in : {T : Type 0} (zs : List T) (x : T) (earlier : List T) → Has x (zs ++ x ∷ earlier)
-has_in [] x earlier = inl refl
-has_in (z ∷ zs) x earlier = inr (has_in zs x earlier)
+-- what is one of a part is one of all
+pub has_first : {T : Type 0} (x : T) (xs ys : List T) → Has x xs → Has x (xs ++ ys)
+has_first x [] ys h = absurd h
+has_first x (z ∷ xs) ys (inl e) = inl e
+has_first x (z ∷ xs) ys (inr h) = inr (has_first x xs ys h)
+
+pub has_last : {T : Type 0} (x : T) (xs ys : List T) → Has x ys → Has x (xs ++ ys)
+has_last x [] ys h = h
+has_last x (z ∷ xs) ys h = inr (has_last x xs ys h)
 
 pub has_there : {T : Type 0} (later : List T) (x : T) (earlier ys : List T) → ys ≡ later ++ x ∷ earlier → Has x ys
-has_there later x earlier ys e = subst (Has x) (sym e) (has_in later x earlier)
+has_there later x earlier ys e = subst (Has x) (sym e) (has_last x later (x ∷ earlier) (inl refl))
 
 -- what comes next is the last of what comes later
 pub last_more : (y : Act) (acts : List Act) (act : Act) → IsNext (next_of (Some y) acts) act →
@@ -57,10 +63,7 @@ own_act false act order = refl
 pub acts_there : (first : Bool) (later : List OneAct) (act : Act) (earlier order : List OneAct) →
     order ≡ later ++ (first, act) ∷ earlier →
     acts_of first order ≡ acts_of first later ++ act ∷ acts_of first earlier
-acts_there first later act earlier order e =
-    ap (acts_of first) e
-    ∙ (acts_append first later ((first, act) ∷ earlier)
-    ∙ ap (λ (zs : List Act). acts_of first later ++ zs) (own_act first act earlier))
+acts_there first later act earlier order e = search (rules, acts_append, own_act)
 
 -- and each of its acts stands at a place in the order
 pub record Placed (first : Bool) (order : List OneAct) (later : List Act) (act : Act) (earlier : List Act) : Type 0 where
@@ -74,13 +77,8 @@ pub record Placed (first : Bool) (order : List OneAct) (later : List Act) (act :
 pub placed_past : (first : Bool) (e : OneAct) (order : List OneAct) (later : List Act) (act : Act) (earlier : List Act) →
     ((zs : List OneAct) → acts_of first (e ∷ zs) ≡ acts_of first zs) → Placed first order later act earlier →
     Placed first (e ∷ order) later act earlier
-placed_past first e order later act earlier skips p = record {
-  newer = e ∷ p.newer;
-  older = p.older;
-  is = ap (λ (zs : List OneAct). e ∷ zs) p.is;
-  later_is = skips p.newer ∙ p.later_is;
-  earlier_is = p.earlier_is;
-}
+placed_past first e order later act earlier skips p =
+    search (e ∷ p.newer, ap (λ (zs : List OneAct). e ∷ zs) p.is, skips p.newer ∙ p.later_is)
 
 -- at an act of this end, or behind it
 pub placed_own : (first : Bool) (own : Act) (order : List OneAct) (later : List Act) (act : Act) (earlier : List Act) →
@@ -103,23 +101,17 @@ placed_own first own order (y ∷ later) act earlier e rest =
       newer = (first, own) ∷ p.newer;
       older = p.older;
       is = ap (λ (zs : List OneAct). (first, own) ∷ zs) p.is;
-      later_is =
-          own_act first own p.newer
-          ∙ (ap (λ (z : Act). z ∷ acts_of first p.newer) h.0 ∙ ap (λ (zs : List Act). y ∷ zs) p.later_is);
+      later_is = search rules;
       earlier_is = p.earlier_is;
     }
 
 pub placed : (first : Bool) (order : List OneAct) (later : List Act) (act : Act) (earlier : List Act) →
     acts_of first order ≡ later ++ act ∷ earlier → Placed first order later act earlier
-placed first [] later act earlier e = nothing_left later act earlier e
-placed true ((true, own) ∷ order) later act earlier e =
-    placed_own true own order later act earlier e (λ more h. placed true order more act earlier h)
-placed true ((false, own) ∷ order) later act earlier e =
-    placed_past true (false, own) order later act earlier (λ zs. refl) (placed true order later act earlier e)
-placed false ((true, own) ∷ order) later act earlier e =
-    placed_past false (true, own) order later act earlier (λ zs. refl) (placed false order later act earlier e)
-placed false ((false, own) ∷ order) later act earlier e =
-    placed_own false own order later act earlier e (λ more h. placed false order more act earlier h)
+placed first [] later act earlier e = nothing_left _ _ _ e
+placed true ((true, own) ∷ order) later act earlier e = placed_own _ _ _ _ _ _ e (λ more h. placed _ _ _ _ _ h)
+placed true ((false, own) ∷ order) later act earlier e = placed_past _ _ _ _ _ _ (λ zs. refl) (placed _ _ _ _ _ e)
+placed false ((true, own) ∷ order) later act earlier e = placed_past _ _ _ _ _ _ (λ zs. refl) (placed _ _ _ _ _ e)
+placed false ((false, own) ∷ order) later act earlier e = placed_own _ _ _ _ _ _ e (λ more h. placed _ _ _ _ _ h)
 
 -- ---- timeouts
 pub timeouts_append : (xs ys : List OneAct) → timeouts (xs ++ ys) ≡ timeouts xs + timeouts ys
@@ -166,17 +158,10 @@ owns_append first xs ys = ap timed (acts_append first xs ys) ∙ timed_append (a
 -- ---- what an end received
 -- it handled that, if it loses nothing
 pub handled_it : (from : Endpoint) (bytes : List ℕ) (act : Act) → IsReceipt from bytes act → IsNoLoss act → act ≡ Took from bytes
-handled_it from bytes (Took source content) is no_loss =
-    ap (λ (a : Endpoint). Took a content) is.0 ∙ ap (Took from) is.1
-handled_it from bytes (Lost source content) is no_loss = absurd no_loss
-handled_it from bytes (Said to content) is no_loss = absurd is
-handled_it from bytes Timed is no_loss = absurd is
+handled_it from bytes act is no_loss = search rules
 
 pub took_it : (first : Bool) (from : Endpoint) (bytes : List ℕ) (order newer older : List OneAct) (receipt : Act) →
     IsReceipt from bytes receipt → HandlesAll (acts_of first order) → order ≡ newer ++ (first, receipt) ∷ older →
     receipt ≡ Took from bytes
 took_it first from bytes order newer older receipt is handles e =
-    handled_it from bytes receipt is
-    (all_has IsNoLoss (acts_of first order) receipt handles
-    (has_there (acts_of first newer) receipt (acts_of first older) (acts_of first order)
-    (acts_there first newer receipt older order e)))
+    handled_it _ _ _ is (all_has _ _ _ handles (has_there _ _ _ _ (acts_there _ _ _ _ _ e)))

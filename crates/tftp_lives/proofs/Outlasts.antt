@@ -1,11 +1,11 @@
 -- An end outlasts a loss that is bounded. For the law an_end_outlasts_loss.
-use Rattle.tftp_lives.proofs.Common.{◌≡◌, ℕ, ◌+◌, ◌*◌, ◌<◌, ◌≤◌, Bool, true, false, List, [], ◌∷◌, ◌++◌, Option, Some}
-use Rattle.tftp_lives.proofs.Common.{None, refl, sym, ap, ◌∙◌, subst, arith, inl, inr, ◌⊎◌, is_some, true≢false, Spells}
-use Rattle.tftp_lives.proofs.Common.{canonical, Packet, SinkMeaning, SourceMeaning, Endpoint, EndState, is_sender}
-use Rattle.tftp_lives.proofs.Common.{IsOpen, Reply, timeout_turn, Act, Took, Lost, Said, Timed, Has, IsNext, Life}
-use Rattle.tftp_lives.proofs.Common.{Opens, Hears, Loses, Times, newest, next_of, timed, with_reply, AreOpposite}
-use Rattle.tftp_lives.proofs.Common.{Awaits, Begins, HasSaid, IsOver}
-use Rattle.std.proofs.Common.{append_assoc}
+use Rattle.std.proofs.lemmas.Grind.{common_steps}
+use Rattle.tftp_lives.proofs.Common.{◌≡◌, ℕ, ◌+◌, ◌*◌, ◌<◌, ◌≤◌, Bool, true, false, List, [], ◌∷◌, ◌++◌, None, refl}
+use Rattle.tftp_lives.proofs.Common.{sym, ap, ◌∙◌, arith, inl, inr, ◌⊎◌, is_some, true≢false, Spells, canonical, Packet}
+use Rattle.tftp_lives.proofs.Common.{SinkMeaning, SourceMeaning, Endpoint, EndState, is_sender, IsOpen, Act, Took, Said}
+use Rattle.tftp_lives.proofs.Common.{Has, IsNext, Life, newest, next_of, timed, AreOpposite, Awaits, Begins, HasSaid}
+use Rattle.tftp_lives.proofs.Common.{IsOver}
+use Rattle.std.proofs.Common.{append_assoc, rules, arith as std_arith}
 use Rattle.tftp_lives.specs.Lives.{HandlesAll}
 use Rattle.tftp_lives.specs.Outlasting.{OneAct, acts_of, timeouts, AnswersPromptly, ArriveInTime}
 use Rattle.tftp_lives.specs.Outlasting.{EndsOutlastLoss, GaveUp}
@@ -14,8 +14,8 @@ use Rattle.tftp_lives.proofs.Answering.{ends_answer}
 use Rattle.tftp_lives.proofs.Unanswered.{give_up_unanswered}
 use Rattle.tftp_lives.proofs.LivesStand.{life_stands}
 use Rattle.tftp_lives.proofs.OpenEnds.{GoesOn, flipped, gave_up_only, how_it_is}
-use Rattle.tftp_lives.proofs.OneOrder.{acts_there, has_there, heads, last_of, nothing_left, own_act, owns, owns_append, placed, split_at}
-use Rattle.tftp_lives.proofs.OneOrder.{timed_few, took_it}
+use Rattle.tftp_lives.proofs.OneOrder.{acts_there, has_there, last_of, owns, owns_append, placed, split_at, timed_few}
+use Rattle.tftp_lives.proofs.OneOrder.{took_it}
 
 -- ---- the two ends
 -- an end that has closed did something in each part of the order that is its newest
@@ -45,17 +45,12 @@ module _ (me it : Bool) (a b : Endpoint) (x y : EndState) (order : List OneAct) 
       elim h.4 [
         | inl took ↦
             let got : order ≡ (h.0 ++ took.0) ++ (me, took.1) ∷ took.2 =
-            e
-            ∙ (ap (λ (zs : List OneAct). zs ++ (it, Said a bytes) ∷ earlier) h.2
-            ∙ (append_assoc h.0 h.1 ((it, Said a bytes) ∷ earlier)
-            ∙ (ap (λ (zs : List OneAct). h.0 ++ zs) took.4 ∙ sym (append_assoc h.0 took.0 ((me, took.1) ∷ took.2))))) in
+            grind (std_arith, common_steps) in
             let all : order ≡ (h.0 ++ took.0) ++ (me, Took b bytes) ∷ took.2 =
-            got
-            ∙ ap (λ (act : Act). (h.0 ++ took.0) ++ (me, act) ∷ took.2)
-            (took_it me b bytes order (h.0 ++ took.0) took.2 took.1 took.3 handles got) in
-            g.unheard answer bytes awaits readable
-            (has_there (acts_of me (h.0 ++ took.0)) (Took b bytes) (acts_of me took.2) (acts_of me order)
-            (acts_there me (h.0 ++ took.0) (Took b bytes) took.2 order all))
+            got ∙ ap (λ (act : Act). (h.0 ++ took.0) ++ (me, act) ∷ took.2) (took_it me b bytes order (h.0 ++ took.0)
+            took.2 took.1 took.3 handles got) in
+            g.unheard answer bytes awaits readable (has_there (acts_of me (h.0 ++ took.0)) (Took b bytes) (acts_of me
+            took.2) (acts_of me order) (acts_there me (h.0 ++ took.0) (Took b bytes) took.2 order all))
         | inr closed ↦
             let parts = ap (owns me) h.2 ∙ owns_append me h.0 h.1 in
             let none : owns me h.0 ≡ 0 = ap timed closed.1 in
@@ -89,17 +84,23 @@ module _ (me it : Bool) (a b : Endpoint) (x y : EndState) (order : List OneAct) 
         let act = Said a (canonical answer) in
         let l = last_of (acts_of it (since ++ newer)) act h in
         let p = placed it (since ++ newer) l.0 act [] l.1 in
-        let all : order ≡ p.newer ++ (it, act) ∷ (p.older ++ (it, Took a bytes) ∷ older) =
-        e ∙ (ap (λ (zs : List OneAct). zs ++ (it, Took a bytes) ∷ older) p.is
-        ∙ append_assoc p.newer ((it, act) ∷ p.older) ((it, Took a bytes) ∷ older)) in
+        let all =
+        e ∙ (ap (λ (zs : List OneAct). zs ++ (it, Took a bytes) ∷ older) p.is ∙ append_assoc p.newer ((it, act) ∷
+        p.older) ((it, Took a bytes) ∷ older)) in
         let few = promptly p.newer p.older older (canonical answer) bytes all p.earlier_is in
         let fewer = timed_few me p.older in
         let part = owns_append me since newer in
-        let whole : owns me (since ++ newer) ≡ owns me p.newer + owns me ((it, act) ∷ p.older) =
-        ap (owns me) p.is ∙ owns_append me p.newer ((it, act) ∷ p.older) in
+        let whole = ap (owns me) p.is ∙ owns_append me p.newer ((it, act) ∷ p.older) in
         let said_none = owns_said me it a (canonical answer) p.older in
-        comes_back answer awaits readable p.newer (p.older ++ (it, Took a bytes) ∷ older) all
-        (omega (arith, long, few, fewer, part, whole, said_none))
+        comes_back answer awaits readable p.newer (p.older ++ (it, Took a bytes) ∷ older) all (omega (
+          arith,
+          long,
+          few,
+          fewer,
+          part,
+          whole,
+          said_none,
+        ))
       where
         -- what is sent is no timeout
         owns_said : (first other : Bool) (to : Endpoint) (content : List ℕ) (acts : List OneAct) →
@@ -127,8 +128,8 @@ module _ (me it : Bool) (a b : Endpoint) (x y : EndState) (order : List OneAct) 
       let tried = g.tried in
       let to_b : newest x ≡ Said b bytes = ap (λ (p : Endpoint). Said p bytes) g.to_peer in
       let p =
-      placed me order tried.later (Said b bytes) tried.earlier
-      (tried.is ∙ ap (λ (z : Act). tried.later ++ z ∷ tried.earlier) to_b) in
+      placed me order tried.later (Said b bytes) tried.earlier (tried.is ∙ ap (λ (z : Act). tried.later ++ z ∷
+      tried.earlier) to_b) in
       let many = tried.timeouts in
       let few = timed_few me p.newer in
       let same = ap timed p.later_is in
@@ -140,46 +141,43 @@ module _ (me it : Bool) (a b : Endpoint) (x y : EndState) (order : List OneAct) 
       elim h.4 [
         | inl took ↦
             let got : order ≡ (h.0 ++ took.0) ++ (it, took.1) ∷ took.2 =
-            p.is
-            ∙ (ap (λ (zs : List OneAct). zs ++ (me, Said b bytes) ∷ p.older) h.2
-            ∙ (append_assoc h.0 h.1 ((me, Said b bytes) ∷ p.older)
-            ∙ (ap (λ (zs : List OneAct). h.0 ++ zs) took.4 ∙ sym (append_assoc h.0 took.0 ((it, took.1) ∷ took.2))))) in
+            grind (std_arith, common_steps) in
             let all : order ≡ (h.0 ++ took.0) ++ (it, Took a bytes) ∷ took.2 =
-            got
-            ∙ ap (λ (act : Act). (h.0 ++ took.0) ++ (it, act) ∷ took.2)
-            (took_it it a bytes order (h.0 ++ took.0) took.2 took.1 took.3 its got) in
+            got ∙ ap (λ (act : Act). (h.0 ++ took.0) ++ (it, act) ∷ took.2) (took_it it a bytes order (h.0 ++ took.0)
+            took.2 took.1 took.3 its got) in
             let packet = g.said in
-            handled packet.0 packet.1 bytes packet.3 h.0 took.0 took.2 all
-            (omega (arith, many, same, enough, parts, less, part))
+            handled packet.0 packet.1 bytes packet.3 h.0 took.0 took.2 all (omega (
+              arith,
+              many,
+              same,
+              enough,
+              parts,
+              less,
+              part,
+            ))
         | inr closed ↦
-            still h.0 (h.1 ++ (me, Said b bytes) ∷ p.older)
-            (p.is
-            ∙ (ap (λ (zs : List OneAct). zs ++ (me, Said b bytes) ∷ p.older) h.2
-            ∙ append_assoc h.0 h.1 ((me, Said b bytes) ∷ p.older)))
-            (omega (arith, many, same, enough, parts, less, part, first)) closed.0 closed.1
+            still h.0 (h.1 ++ (me, Said b bytes) ∷ p.older) (p.is ∙ (ap (λ (zs : List OneAct). zs ++ (me, Said b bytes)
+            ∷ p.older) h.2 ∙ append_assoc h.0 h.1 ((me, Said b bytes) ∷ p.older))) (omega (
+              arith,
+              many,
+              same,
+              enough,
+              parts,
+              less,
+              part,
+              first,
+            )) closed.0 closed.1
       ]
 
 -- an end that did the last act is there until the end of the order
 does_last : (it : Bool) (act : Act) (order since rest : List OneAct) → (it, act) ∷ order ≡ since ++ rest →
     0 < timeouts since → acts_of it since ≡ [] → ⊥
 does_last it act order [] rest e some none = omega (arith, some)
-does_last it act order (s ∷ since) rest e some none =
-    let first : (it, act) ≡ s = (heads (it, act) s order (since ++ rest) e).0 in
-    let own : acts_of it (s ∷ since) ≡ act ∷ acts_of it since =
-    subst (λ (z : OneAct). acts_of it (z ∷ since) ≡ act ∷ acts_of it since) first (own_act it act since) in
-    nothing_left [] act (acts_of it since) (sym none ∙ own)
-
--- an end has done something
-with_some : (reply : Option Reply) (act : Act) (acts : List Act) → with_reply reply (act ∷ acts) ≡ [] → ⊥
-with_some None act acts none = nothing_left [] act acts (sym none)
-with_some (Some reply) act acts none = nothing_left [] (Said reply.to reply.bytes) (act ∷ acts) (sym none)
+does_last it act order (s ∷ since) rest e some none = search rules
 
 has_acts : {S K : Type 0} {sources : SourceMeaning S} {sinks : SinkMeaning K} {first e : EndState} {acts : List Act} →
     Life sources sinks first acts e → acts ≡ [] → ⊥
-has_acts {first = first} Opens none = nothing_left [] (newest first) [] (sym none)
-has_acts (Hears {acts} {e} {turn} life opened from bytes step) none = with_some turn.reply (Took from bytes) acts none
-has_acts (Loses {acts} life opened from bytes) none = nothing_left [] (Lost from bytes) acts (sym none)
-has_acts (Times {acts} {e} life opened) none = with_some (timeout_turn e).reply Timed acts none
+has_acts h0 none = search rules
 
 abbrev IsOneOf : Bool → Bool → Type 0
 IsOneOf me it = (b : Bool) → (b ≡ me) ⊎ (b ≡ it)
@@ -217,11 +215,7 @@ module _ {S K T L : Type 0} (sources : SourceMeaning S) (sinks : SinkMeaning K) 
 
       -- what y knows, if x is
       turned : AreOpposite b a y x
-      turned = record {
-        x_peer = opposite.y_peer;
-        y_peer = opposite.x_peer;
-        sides = flipped (is_sender y.role.side) (is_sender x.role.side) opposite.sides;
-      }
+      turned = search (flipped (is_sender y.role.side) (is_sender x.role.side) opposite.sides)
 
       by_y : GaveUp y → IsStill order me x → ⊥
       by_y gave' still =
@@ -257,17 +251,5 @@ other_way false = inl refl
 
 pub ends_outlast_loss : {S K T L : Type 0} (sources : SourceMeaning S) (sinks : SinkMeaning K)
     (inputs : SourceMeaning T) (outputs : SinkMeaning L) → EndsOutlastLoss sources sinks inputs outputs
-ends_outlast_loss sources sinks inputs outputs a b x0 x y0 y order limit slack x_begins x_life y_begins y_life opposite
-    bounded = (
-      outlasts_it sources sinks inputs outputs true false one_way a b x0 x y0 y order limit slack x_begins x_life y_begins
-          y_life opposite bounded.x_retries bounded.y_retries bounded.to_y bounded.to_x bounded.y_prompt bounded.x_prompt
-          bounded.x_handles bounded.y_handles,
-      outlasts_it inputs outputs sources sinks false true other_way b a y0 y x0 x order limit slack y_begins y_life x_begins
-          x_life
-          (record {
-            x_peer = opposite.y_peer;
-            y_peer = opposite.x_peer;
-            sides = flipped (is_sender y.role.side) (is_sender x.role.side) opposite.sides;
-          }) bounded.y_retries bounded.x_retries bounded.to_x bounded.to_y bounded.x_prompt bounded.y_prompt
-          bounded.y_handles bounded.x_handles,
-    )
+ends_outlast_loss sources sinks inputs outputs a b x0 x y0 y order limit slack x_begins x_life y_begins y_life opposite bounded =
+    search (rules, outlasts_it, true, false, one_way, other_way, flipped, is_sender)

@@ -1,7 +1,10 @@
 -- How an end stands as it opens.
-use Rattle.tftp_lives.proofs.Common.{◌≡◌, ℕ, ◌≤◌, List, [], ◌∷◌, refl, sym, subst, arith, inl, inr, true≢false, IsValid}
-use Rattle.tftp_lives.proofs.Common.{MAX_BLOCK, Data, Endpoint, EndState, newest, Begins}
-use Rattle.std.specs.Prelude.{◌*◌, ◌<◌, ◌≢◌, length as list_length}
+use Rattle.std.proofs.Common.{rules}
+use Rattle.tftp_lives.proofs.Common.{◌≡◌, ℕ, ◌≤◌, ◌*◌, ◌<◌, Bool, true, false, List, [], ◌∷◌, refl, sym, subst, arith}
+use Rattle.tftp_lives.proofs.Common.{inl, inr, ◌⊎◌, true≢false, IsValid, canonical, Packet, MAX_BLOCK, Data, Ack, Oack}
+use Rattle.tftp_lives.proofs.Common.{Waiting, Sending, Receiving, Terms, Role, Endpoint, EndState, is_sender, is_client}
+use Rattle.tftp_lives.proofs.Common.{Said, newest, Begins}
+use Rattle.std.specs.Prelude.{◌≢◌, length as list_length}
 use Rattle.tftp_wire.specs.declared.mode.Mode.{Mode}
 use Rattle.tftp_negotiate.specs.declared.known.Known.{Known}
 use Rattle.tftp_negotiate.specs.Agreed.{agreed_options, size}
@@ -9,11 +12,9 @@ use Rattle.tftp_ends.specs.Opening.{serving_read, serving_write}
 use Rattle.tftp_ends.specs.Opening.{getting, putting}
 use Rattle.tftp_ends.specs.Waiting.{agreed_terms, default_terms}
 use Rattle.tftp_lives.specs.Unanswered.{MayAgree, To_get, To_put, To_serve_read, To_serve_write}
-use Rattle.tftp_lives.proofs.Stands.{HasBlock, IsCopied}
-use Rattle.tftp_lives.proofs.Stands.{Stands, Asks, Gives, Takes}
+use Rattle.tftp_lives.proofs.Stands.{CanNumber, Goes, IsCopied, IsOack, Says, Stands, TalksSo}
 
--- ---- an end that opens
-pub once : (e : EndState) → e.position.retries_left ≡ e.role.retries →
+once : (e : EndState) → e.position.retries_left ≡ e.role.retries →
     IsCopied (newest e ∷ []) (newest e) e.role.retries e.position.retries_left 0
 once e all = record {
   count = 1;
@@ -26,86 +27,66 @@ once e all = record {
 }
 
 -- DATA 1 can be read
-pub first_block : (piece : List ℕ) → list_length piece ≤ MAX_BLOCK → IsValid (Data 1 piece)
+first_block : (piece : List ℕ) → list_length piece ≤ MAX_BLOCK → IsValid (Data 1 piece)
 first_block piece short = (λ none. absurd (omega (arith, none)), omega arith, short)
 
-pub some_known : (known : Known) (others : List Known) → known ∷ others ≢ []
+some_known : (known : Known) (others : List Known) → known ∷ others ≢ []
 some_known known others e = cc
 
-abbrev pub OpensSo : EndState → Type 0
+-- an end of the server, whose first datagram is this packet
+opens_talk : (sends : Bool) (role : Role) (t : Terms) (n : ℕ) (q : Packet) → is_sender role.side ≡ sends →
+    is_client role.side ≡ false → (sends ≡ true → CanNumber role.length t) → Says q sends n ⊎ IsOack q role.side n →
+    IsValid q → ((j : ℕ) → 1 ≤ j → j ≤ n → Says q sends j) →
+    TalksSo sends (Said t.peer (canonical q) ∷ []) role t.peer (canonical q) t n
+opens_talk sends role t n q side server numbered says valid first = search rules
+
+abbrev OpensSo : EndState → Type 0
 OpensSo e = Stands (newest e ∷ []) e
 
-pub serves_read : (agreed : List Known) (peer : Endpoint) (mode : Mode) (length retries : ℕ) (piece : List ℕ) →
+serves_read : (agreed : List Known) (peer : Endpoint) (mode : Mode) (length retries : ℕ) (piece : List ℕ) →
     MayAgree agreed → length < 65535 * size agreed → list_length piece ≤ MAX_BLOCK →
     OpensSo (serving_read agreed peer mode length retries piece)
 serves_read [] peer mode length retries piece may fits short =
-    Gives (default_terms peer) 1 (inl refl)
-    (record {
-      side_is = refl;
-      to_is = refl;
-      said = inl (piece, first_block piece short, refl);
-      acks = (tt, tt);
-      oacks = (tt, tt);
-      blocks = λ j low high.
-          let is : 1 ≡ j = omega (arith, low, high) in
-          subst (λ (k : ℕ). HasBlock (default_terms peer) (newest (serving_read [] peer mode length retries piece) ∷ []) k) is
-          (piece, first_block piece short, inl refl);
-      low = λ _. omega arith;
-      due = (tt, tt);
-    })
-    (record { fits = fits; sized = may.sized })
-    (once (serving_read [] peer mode length retries piece) refl)
+    let e = serving_read [] peer mode length retries piece in
+    Goes (Sending (default_terms peer) 1) (inl refl)
+    (opens_talk true e.role (default_terms peer) 1 (Data 1 piece) refl refl
+    (λ _. record { fits = fits; sized = may.sized }) (inl refl) (first_block piece short)
+    (λ j low high. omega (arith, low, high)))
+    (once e refl)
 serves_read (known ∷ others) peer mode length retries piece may fits short =
-    Gives (agreed_terms peer (known ∷ others)) 0 (inl refl)
-    (record {
-      side_is = refl;
-      to_is = refl;
-      said = inr (refl, refl, (agreed_options (known ∷ others), may.oack (some_known known others), refl));
-      acks = (tt, tt);
-      oacks = (tt, tt);
-      blocks = λ j low high. absurd (omega (arith, low, high));
-      low = λ client. absurd (true≢false (sym client));
-      due = (tt, tt);
-    })
-    (record { fits = fits; sized = may.sized })
-    (once (serving_read (known ∷ others) peer mode length retries piece) refl)
+    let e = serving_read (known ∷ others) peer mode length retries piece in
+    let t = agreed_terms peer (known ∷ others) in
+    Goes (Sending t 0) (inl refl)
+    (opens_talk true e.role t 0 (Oack (agreed_options (known ∷ others))) refl refl
+    (λ _. record { fits = fits; sized = may.sized }) (inr (refl, refl)) (may.oack (some_known known others))
+    (λ j low high. absurd (omega (arith, low, high))))
+    (once e refl)
 
-pub serves_write : (agreed : List Known) (peer : Endpoint) (mode : Mode) (retries : ℕ) → MayAgree agreed →
+serves_write : (agreed : List Known) (peer : Endpoint) (mode : Mode) (retries : ℕ) → MayAgree agreed →
     OpensSo (serving_write agreed peer mode retries)
 serves_write [] peer mode retries may =
-    Takes (default_terms peer) 0 (inl refl)
-    (record {
-      side_is = refl;
-      to_is = refl;
-      said = inl (omega arith, refl);
-      blocks = (tt, tt);
-      acks = λ j low high. absurd (omega (arith, low, high));
-      opened = λ client by. absurd (true≢false (sym client));
-      oacks = (tt, tt);
-      due = (tt, tt);
-    })
-    (once (serving_write [] peer mode retries) refl)
+    let e = serving_write [] peer mode retries in
+    Goes (Receiving (default_terms peer) 0) (inl refl)
+    (opens_talk false e.role (default_terms peer) 0 (Ack 0) refl refl (λ no. absurd (true≢false (sym no))) (inl refl)
+    (omega arith) (λ j low high. absurd (omega (arith, low, high))))
+    (once e refl)
 serves_write (known ∷ others) peer mode retries may =
-    Takes (agreed_terms peer (known ∷ others)) 0 (inl refl)
-    (record {
-      side_is = refl;
-      to_is = refl;
-      said = inr (refl, refl, (agreed_options (known ∷ others), may.oack (some_known known others), refl));
-      blocks = (tt, tt);
-      acks = λ j low high. absurd (omega (arith, low, high));
-      opened = λ client by. absurd (true≢false (sym client));
-      oacks = (tt, tt);
-      due = (tt, tt);
-    })
-    (once (serving_write (known ∷ others) peer mode retries) refl)
+    let e = serving_write (known ∷ others) peer mode retries in
+    let t = agreed_terms peer (known ∷ others) in
+    Goes (Receiving t 0) (inl refl)
+    (opens_talk false e.role t 0 (Oack (agreed_options (known ∷ others))) refl refl
+    (λ no. absurd (true≢false (sym no))) (inr (refl, refl)) (may.oack (some_known known others))
+    (λ j low high. absurd (omega (arith, low, high))))
+    (once e refl)
 
 pub begins_so : (e : EndState) → Begins e → OpensSo e
 begins_so e (To_get to name mode asked limit retries askable is) =
     subst OpensSo (sym is)
-    (Asks asked limit (inl refl) refl askable (tt, tt) (once (getting to name mode asked limit retries) refl))
+    (Goes (Waiting asked limit) (inl refl) (refl, askable, (tt, tt)) (once (getting to name mode asked limit retries) refl))
 begins_so e (To_put to name mode asked length limit retries askable is) =
     subst OpensSo (sym is)
-    (Asks asked limit (inl refl) refl askable (tt, tt) (once (putting to name mode asked length limit retries) refl))
+    (Goes (Waiting asked limit) (inl refl) (refl, askable, (tt, tt))
+    (once (putting to name mode asked length limit retries) refl))
 begins_so e (To_serve_read agreed peer mode length retries piece may fits short is) =
     subst OpensSo (sym is) (serves_read agreed peer mode length retries piece may fits short)
 begins_so e (To_serve_write agreed peer mode retries may is) =

@@ -1,23 +1,20 @@
 -- How an open end stands after it handled a datagram.
-use Rattle.tftp_lives.proofs.Common.{◌≡◌, ℕ, true, false, List, ◌∷◌, Option, Some, None, refl, inl, ◌==◌, ◌&&◌}
-use Rattle.tftp_lives.proofs.Common.{if◌then◌else◌, AllByRecursion, Packet, Read, Write, Data, Ack, Error, Oack, Asked}
-use Rattle.tftp_lives.proofs.Common.{IsAskable, SourceMeaning, SinkMeaning, Respond, Response, Ignore, WrongPeer}
-use Rattle.tftp_lives.proofs.Common.{ResendReply, Endpoint, Phase, Waiting, Sending, Receiving, Dallying, Terms}
-use Rattle.tftp_lives.proofs.Common.{Decodes, is_wrong_peer, datagram_action, EndState, is_client, terms_of, if_either}
-use Rattle.tftp_lives.proofs.Common.{Act, Took, newest}
+use Rattle.std.proofs.Common.{rules}
+use Rattle.tftp_lives.proofs.Common.{◌≡◌, ℕ, true, false, List, ◌∷◌, Option, refl, inl, ◌&&◌, if◌then◌else◌, Packet}
+use Rattle.tftp_lives.proofs.Common.{SourceMeaning, SinkMeaning, Respond, Ignore, WrongPeer, Endpoint, Phase, Waiting}
+use Rattle.tftp_lives.proofs.Common.{Sending, Receiving, Dallying, Terms, Decodes, is_wrong_peer, same_address}
+use Rattle.tftp_lives.proofs.Common.{datagram_action, EndState, terms_of, if_either, Act, Took, newest}
 use Rattle.std.specs.Prelude.{is_none}
 use Rattle.tftp_wire.specs.Reading.{has_error_opcode}
 use Rattle.tftp_ends.specs.declared.outcome.Outcome.TheVariants as outcomes
 use Rattle.tftp_ends.specs.declared.phase.Dally.{Dally}
 use Rattle.tftp_ends.specs.Action.{garbled_response, packet_action}
 use Rattle.tftp_ends.specs.Receiver.{dally_response}
-use Rattle.tftp_lives.proofs.Spelled.{near}
-use Rattle.tftp_lives.proofs.Spelled.{of_peer}
-use Rattle.tftp_lives.proofs.Stands.{CanNumber, GivesSo, IsCopied}
-use Rattle.tftp_lives.proofs.Stands.{NotFrom, Stands, Over, TakesSo}
-use Rattle.tftp_lives.proofs.StandActions.{Going, answers_again, answers_wrong_peer, at, gone, ignores}
+use Rattle.tftp_lives.proofs.Spelled.{not_false, of_peer}
+use Rattle.tftp_lives.proofs.Stands.{IsCopied, Knows, Stands, Over}
+use Rattle.tftp_lives.proofs.StandActions.{Going, answers_wrong_peer, at, gone, ignores}
 use Rattle.tftp_lives.proofs.StandClients.{asks_other, waiting_goes}
-use Rattle.tftp_lives.proofs.StandPeers.{gives_other, receiver_goes, sender_goes, takes_other}
+use Rattle.tftp_lives.proofs.StandPeers.{other_stays, receiver_goes, sender_goes}
 
 module _ {S K : Type 0} (sources : SourceMeaning S) (sinks : SinkMeaning K) (e0 : EndState) (from : Endpoint)
     (bytes : List ℕ) (acts : List Act) where
@@ -40,43 +37,29 @@ module _ {S K : Type 0} (sources : SourceMeaning S) (sinks : SinkMeaning K) (e0 
       (λ right. if_either P (has_error_opcode bytes && is_none decoded) (Respond (garbled_response p))
       (packet_action (at sources sinks e0 from bytes acts p) from decoded p) (λ _. garbled) (λ _. packet right))
 
-  pub asks_goes : (asked : Asked) (limit : ℕ) → is_client e0.role.side ≡ true → IsAskable asked →
-      AllByRecursion (NotFrom e0.position.last_sent_to) acts →
-      IsCopied acts (newest e0) e0.role.retries e0.position.retries_left 0 →
-      (decoded : Option Packet) → Decodes bytes decoded →
-      Going sources sinks e0 from bytes acts (Waiting asked limit) (datagram_action (at sources sinks e0 from bytes acts (Waiting asked limit)) from bytes decoded)
-  asks_goes asked limit client askable none c decoded d =
-      tested (Waiting asked limit) decoded (asks_other sources sinks e0 from bytes acts asked limit client askable none c)
+  pub knows_goes : (p : Phase) → Knows acts e0.role e0.position.last_sent_to e0.position.last_sent p →
+      IsCopied acts (newest e0) e0.role.retries e0.position.retries_left 0 → (decoded : Option Packet) →
+      Decodes bytes decoded →
+      Going sources sinks e0 from bytes acts p (datagram_action (at sources sinks e0 from bytes acts p) from bytes decoded)
+  knows_goes (Waiting asked limit) k c decoded d =
+      tested (Waiting asked limit) decoded (asks_other sources sinks e0 from bytes acts asked limit k.0 k.1 k.2 c)
       (gone sources sinks e0 from bytes acts (Waiting asked limit) outcomes.Illegal tt)
-      (λ right. waiting_goes sources sinks e0 from bytes acts asked limit client askable none c (near e0.position.last_sent_to from right) decoded d)
-
-  pub gives_goes : (t : Terms) (n : ℕ) → GivesSo acts e0.role.side e0.position.last_sent_to e0.position.last_sent t n → CanNumber e0.role.length t → IsCopied acts (newest e0) e0.role.retries e0.position.retries_left 0 →
-      (decoded : Option Packet) → Decodes bytes decoded →
-      Going sources sinks e0 from bytes acts (Sending t n) (datagram_action (at sources sinks e0 from bytes acts (Sending t n)) from bytes decoded)
-  gives_goes t n g f c decoded d =
-      tested (Sending t n) decoded (gives_other sources sinks e0 from bytes acts t n g f c) (gone sources sinks e0 from bytes acts (Sending t n) outcomes.Illegal tt)
-      (λ right. sender_goes sources sinks e0 from bytes acts t n g f c (of_peer t e0.position.last_sent_to from right) decoded d)
-
-  pub takes_goes : (t : Terms) (n : ℕ) → TakesSo acts e0.role.side e0.position.last_sent_to e0.position.last_sent t n →
-      IsCopied acts (newest e0) e0.role.retries e0.position.retries_left 0 → (decoded : Option Packet) → Decodes bytes decoded →
-      Going sources sinks e0 from bytes acts (Receiving t n) (datagram_action (at sources sinks e0 from bytes acts (Receiving t n)) from bytes decoded)
-  takes_goes t n g c decoded d =
-      tested (Receiving t n) decoded (takes_other sources sinks e0 from bytes acts t n g c) (gone sources sinks e0 from bytes acts (Receiving t n) outcomes.Illegal tt)
+      (λ right. waiting_goes sources sinks e0 from bytes acts asked limit k.0 k.1 k.2 c
+      (not_false (same_address e0.position.last_sent_to from) right) decoded d)
+  knows_goes (Sending t n) g c decoded d =
+      tested (Sending t n) decoded (other_stays sources sinks e0 from bytes acts (Sending t n) t n true (λ done h. h) g c)
+      (gone sources sinks e0 from bytes acts (Sending t n) outcomes.Illegal tt)
+      (λ right. sender_goes sources sinks e0 from bytes acts t n g c (of_peer t e0.position.last_sent_to from right) decoded d)
+  knows_goes (Receiving t n) g c decoded d =
+      tested (Receiving t n) decoded (other_stays sources sinks e0 from bytes acts (Receiving t n) t n false (λ done h. h) g c)
+      (gone sources sinks e0 from bytes acts (Receiving t n) outcomes.Illegal tt)
       (λ right. receiver_goes sources sinks e0 from bytes acts t n g c (of_peer t e0.position.last_sent_to from right) decoded d)
+  knows_goes p k c decoded d = absurd k
 
   -- ---- an end that is complete stays so
   dally_goes : (t : Terms) (n : ℕ) (dally : Dally) (decoded : Option Packet) →
       Going sources sinks e0 from bytes acts (Dallying t n dally) (Respond (dally_response n decoded))
-  dally_goes t n dally None = ignores sources sinks e0 from bytes acts (Dallying t n dally) (Over (inl refl))
-  dally_goes t n dally (Some (Read r)) = ignores sources sinks e0 from bytes acts (Dallying t n dally) (Over (inl refl))
-  dally_goes t n dally (Some (Write r)) = ignores sources sinks e0 from bytes acts (Dallying t n dally) (Over (inl refl))
-  dally_goes t n dally (Some (Data number piece)) =
-      if_either (λ (r : Response). Going sources sinks e0 from bytes acts (Dallying t n dally) (Respond r)) (number == n) ResendReply Ignore
-      (λ _. answers_again sources sinks e0 from bytes acts (Dallying t n dally) (Over (inl refl)))
-      (λ _. ignores sources sinks e0 from bytes acts (Dallying t n dally) (Over (inl refl)))
-  dally_goes t n dally (Some (Ack acked)) = ignores sources sinks e0 from bytes acts (Dallying t n dally) (Over (inl refl))
-  dally_goes t n dally (Some (Error code text)) = ignores sources sinks e0 from bytes acts (Dallying t n dally) (Over (inl refl))
-  dally_goes t n dally (Some (Oack options)) = ignores sources sinks e0 from bytes acts (Dallying t n dally) (Over (inl refl))
+  dally_goes t n dally decoded = search rules
 
   pub dallies_on : (t : Terms) (n : ℕ) (dally : Dally) (decoded : Option Packet) →
       Going sources sinks e0 from bytes acts (Dallying t n dally) (datagram_action (at sources sinks e0 from bytes acts (Dallying t n dally)) from bytes decoded)

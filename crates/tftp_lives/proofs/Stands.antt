@@ -1,46 +1,30 @@
 -- How an end stands between two steps, by what it has heard and sent.
-use Rattle.tftp_lives.proofs.Common.{◌≡◌, ℕ, ◌+◌, ◌*◌, ◌<◌, ◌≤◌, suc, true, false, List, [], ◌∷◌, Option, Some, None}
-use Rattle.tftp_lives.proofs.Common.{◌++◌, subst, arith, inl, inr, ◌⊎◌, AllByRecursion, IsValid, Spells, canonical}
-use Rattle.tftp_lives.proofs.Common.{MAX_BLOCK, Data, Ack, Oack, IsAskable, Asked, Endpoint, Phase, Waiting, Sending}
-use Rattle.tftp_lives.proofs.Common.{Receiving, Terms, Side, same_address, EndState, is_client, is_sender, closed}
-use Rattle.tftp_lives.proofs.Common.{Reply, ack_bytes, data_bytes, Act, Took, Lost, Said, Timed, Has, IsNext, newest}
-use Rattle.tftp_lives.proofs.Common.{next_of, timed, with_reply, IsOver}
-use Rattle.std.proofs.Common.{zero}
-use Rattle.tftp_wire.specs.declared.options.RawOption.{RawOption}
+use Rattle.tftp_lives.proofs.Common.{◌≡◌, ℕ, ◌+◌, ◌*◌, ◌<◌, ◌≤◌, suc, Bool, true, false, List, [], ◌∷◌, Option, Some}
+use Rattle.tftp_lives.proofs.Common.{None, ◌++◌, subst, inl, inr, ◌⊎◌, AllByRecursion, Spells, canonical, Packet}
+use Rattle.tftp_lives.proofs.Common.{MAX_BLOCK, Data, Ack, Oack, IsAskable, Endpoint, Phase, Waiting, Sending}
+use Rattle.tftp_lives.proofs.Common.{Receiving, Terms, Side, Role, same_address, EndState, is_client, is_sender, closed}
+use Rattle.tftp_lives.proofs.Common.{Reply, Act, Took, Said, Has, IsNext, newest, next_of, timed, with_reply, IsOver}
+use Rattle.std.proofs.Common.{zero, rules}
 use Rattle.tftp_ends.specs.declared.outcome.Outcome.TheVariants as outcomes
 use Rattle.tftp_lives.specs.Lives.{HasCopies}
 
 -- ---- lists
-module _ {T : Type 0} where
-  pub all_has : (P : T → Type 0) (xs : List T) (x : T) → AllByRecursion P xs → Has x xs → P x
-  all_has P [] x all h = absurd h
-  all_has P (y ∷ xs) x all (inl e) = subst P e all.0
-  all_has P (y ∷ xs) x all (inr h) = all_has P xs x all.1 h
-
-  pub all_weaker : (P Q : T → Type 0) → ((x : T) → P x → Q x) → (xs : List T) → AllByRecursion P xs →
-      AllByRecursion Q xs
-  all_weaker P Q to [] all = tt
-  all_weaker P Q to (x ∷ xs) all = (to x all.0, all_weaker P Q to xs all.1)
+pub all_has : {T : Type 0} (P : T → Type 0) (xs : List T) (x : T) → AllByRecursion P xs → Has x xs → P x
+all_has P [] x all h = absurd h
+all_has P (y ∷ xs) x all (inl e) = subst P e all.0
+all_has P (y ∷ xs) x all (inr h) = all_has P xs x all.1 h
 
 -- ---- what was done, with more
 pub has_more : (x : Act) (acts : List Act) (reply : Option Reply) → Has x acts → Has x (with_reply reply acts)
 has_more x acts None h = h
 has_more x acts (Some reply) h = inr h
 
-pub all_more : (P : Act → Type 0) → ((to : Endpoint) (bytes : List ℕ) → P (Said to bytes)) → (acts : List Act)
-    (reply : Option Reply) → AllByRecursion P acts → AllByRecursion P (with_reply reply acts)
-all_more P said acts None all = all
-all_more P said acts (Some reply) all = (said reply.to reply.bytes, all)
-
 pub copies_on : (n : ℕ) (x act : Act) (acts : List Act) → HasCopies n x acts → HasCopies n x (act ∷ acts)
 copies_on zero x act acts h = tt
 copies_on (suc n) x act acts h = inr h
 
 pub timed_on : (act : Act) (acts : List Act) → timed acts ≤ timed (act ∷ acts)
-timed_on (Took from bytes) acts = omega arith
-timed_on (Lost from bytes) acts = omega arith
-timed_on (Said to bytes) acts = omega arith
-timed_on Timed acts = omega arith
+timed_on act acts = search rules
 
 -- ---- an end
 -- it is in this phase, or timed out in it
@@ -67,167 +51,128 @@ pub record IsCopied (acts : List Act) (last : Act) (retries left more : ℕ) : T
 -- what it handled is not from this address
 abbrev pub NotFrom : Endpoint → Act → Type 0
 NotFrom server (Took from bytes) = same_address server from ≡ false
-NotFrom server (Lost from bytes) = Unit {0}
-NotFrom server (Said to bytes) = Unit {0}
-NotFrom server Timed = Unit {0}
+NotFrom server act = Unit {0}
 
--- what it handled of its peer
-abbrev pub AckBelow : Terms → ℕ → Act → Type 0
-AckBelow t n (Took from bytes) = from ≡ t.peer → (k : ℕ) → Spells (Ack k) bytes → k < n
-AckBelow t n (Lost from bytes) = Unit {0}
-AckBelow t n (Said to bytes) = Unit {0}
-AckBelow t n Timed = Unit {0}
+-- ---- what an end with a peer says, and what is due for what it heard
+-- a sender says the block of this number, and a receiver its ACK
+abbrev pub Says : Packet → Bool → ℕ → Type 0
+Says (Data number piece) true j = number ≡ j
+Says (Ack number) false j = number ≡ j
+Says p sends j = ⊥
 
-abbrev pub BlockUpTo : Terms → ℕ → Act → Type 0
-BlockUpTo t n (Took from bytes) = from ≡ t.peer → (k : ℕ) (piece : List ℕ) → Spells (Data k piece) bytes → k ≤ n
-BlockUpTo t n (Lost from bytes) = Unit {0}
-BlockUpTo t n (Said to bytes) = Unit {0}
-BlockUpTo t n Timed = Unit {0}
+-- such a packet can be read, and this holds of it as an act
+abbrev pub SaidSo : (Act → Type 0) → Terms → Bool → ℕ → Type 0
+SaidSo There t sends j =
+    (p : Packet) × Says p sends j × Spells p (canonical p) × There (Said t.peer (canonical p))
 
-abbrev pub OackAtClient : Side → Terms → Act → Type 0
-OackAtClient side t (Took from bytes) =
-    from ≡ t.peer → (options : List RawOption) → Spells (Oack options) bytes → is_client side ≡ true
-OackAtClient side t (Lost from bytes) = Unit {0}
-OackAtClient side t (Said to bytes) = Unit {0}
-OackAtClient side t Timed = Unit {0}
+pub said_weaker : (P Q : Act → Type 0) (t : Terms) (sends : Bool) (j : ℕ) → ((act : Act) → P act → Q act) →
+    SaidSo P t sends j → SaidSo Q t sends j
+said_weaker P Q t sends j to h = (h.0, h.1, h.2, to (Said t.peer (canonical h.0)) h.3)
 
--- it has sent such a datagram to its peer, and a block that can be read
-abbrev pub HasBlock : Terms → List Act → ℕ → Type 0
-HasBlock t acts j = (piece : List ℕ) × IsValid (Data j piece) × Has (Said t.peer (data_bytes j piece)) acts
+-- it is one of these acts
+abbrev pub Among : List Act → Act → Type 0
+Among acts act = Has act acts
 
-abbrev pub HasAck : Terms → List Act → ℕ → Type 0
-HasAck t acts j = Has (Said t.peer (ack_bytes j)) acts
+-- it was done before, or is what comes next
+abbrev pub SentBy : Option Act → List Act → Act → Type 0
+SentBy next acts act = Has act acts ⊎ IsNext next act
 
--- an OACK of its peer came only to a client that an OACK opened
-abbrev pub OackOpened : Side → Terms → Act → Type 0
-OackOpened side t (Took from bytes) =
-    from ≡ t.peer → (options : List RawOption) → Spells (Oack options) bytes
-    → (is_client side ≡ true) × (t.by_oack ≡ true)
-OackOpened side t (Lost from bytes) = Unit {0}
-OackOpened side t (Said to bytes) = Unit {0}
-OackOpened side t Timed = Unit {0}
+-- the number of the answer to an OACK: of the first block, or of the ACK of the OACK
+abbrev pub opening : Bool → ℕ
+opening true = 1
+opening false = 0
 
--- ---- what is due for what it handled
--- it was sent before, or is what comes next
-abbrev pub SentBy : Option Act → Act → List Act → Type 0
-SentBy next act acts = Has act acts ⊎ IsNext next act
+-- this holds of the number that is due for a packet of the peer: of the block after the one that is acknowledged, or of the
+-- ACK of a block
+abbrev pub DueSo : Packet → Bool → (ℕ → Type 0) → Type 0
+DueSo (Ack number) true P = P (number + 1)
+DueSo (Data number piece) false P = P number
+DueSo (Oack options) sends P = P (opening sends)
+DueSo p sends P = Unit {0}
 
--- so it is of a block
-abbrev pub HasNext : Terms → Option Act → List Act → ℕ → Type 0
-HasNext t next acts j =
-    (piece : List ℕ) × IsValid (Data j piece) × SentBy next (Said t.peer (data_bytes j piece)) acts
+pub due_weaker : (p : Packet) (sends : Bool) (P Q : ℕ → Type 0) → ((j : ℕ) → P j → Q j) → DueSo p sends P →
+    DueSo p sends Q
+due_weaker p sends P Q to h = search rules
 
--- of a sender: the block after the one that was acknowledged
-abbrev pub BlockDue : Terms → Option Act → List Act → Act → Type 0
-BlockDue t next acts (Took from bytes) =
-    from ≡ t.peer →
-    ((k : ℕ) → Spells (Ack k) bytes → HasNext t next acts (k + 1))
-    × ((options : List RawOption) → Spells (Oack options) bytes → HasNext t next acts 1)
-BlockDue t next acts (Lost from bytes) = Unit {0}
-BlockDue t next acts (Said to bytes) = Unit {0}
-BlockDue t next acts Timed = Unit {0}
+-- each packet of its peer that it handled is so
+abbrev pub Heard : Terms → (Packet → Type 0) → Act → Type 0
+Heard t P (Took from bytes) = from ≡ t.peer → (p : Packet) → Spells p bytes → P p
+Heard t P act = Unit {0}
 
--- of a receiver: the ACK of the block
-abbrev pub AckDue : Terms → Option Act → List Act → Act → Type 0
-AckDue t next acts (Took from bytes) =
-    from ≡ t.peer →
-    ((k : ℕ) (piece : List ℕ) → Spells (Data k piece) bytes → SentBy next (Said t.peer (ack_bytes k)) acts)
-    × ((options : List RawOption) → Spells (Oack options) bytes → SentBy next (Said t.peer (ack_bytes 0)) acts)
-AckDue t next acts (Lost from bytes) = Unit {0}
-AckDue t next acts (Said to bytes) = Unit {0}
-AckDue t next acts Timed = Unit {0}
+pub heard_weaker : (t : Terms) (P Q : Packet → Type 0) → ((p : Packet) → P p → Q p) → (act : Act) → Heard t P act →
+    Heard t Q act
+heard_weaker t P Q to (Took from bytes) h = λ own p s. to p (h own p s)
+heard_weaker t P Q to act h = tt
 
-module _ (Due : Option Act → List Act → Act → Type 0) where
-  -- so it is of all acts
-  abbrev pub AllDue : Option Act → List Act → Type 0
-  AllDue next [] = Unit {0}
-  AllDue next (act ∷ acts) = Due next acts act × AllDue (Some act) acts
+-- what is due for a packet has no number above n, and such a datagram is so
+abbrev pub IsDue : Terms → Bool → ℕ → (Act → Type 0) → Packet → Type 0
+IsDue t sends n There p = DueSo p sends (λ j. (j ≤ n) × SaidSo There t sends j)
 
-  -- whatever comes next, if nothing did
-  pub due_any : ((next : Option Act) (acts : List Act) (act : Act) → Due None acts act → Due next acts act) →
-      (next : Option Act) (acts : List Act) → AllDue None acts → AllDue next acts
-  due_any more next [] all = tt
-  due_any more next (act ∷ acts) all = (more next acts act all.0, all.1)
+-- for each packet that was handled: it was sent before, or is what comes next
+abbrev pub AllDue : Terms → Bool → ℕ → Option Act → List Act → Type 0
+AllDue t sends n next [] = Unit {0}
+AllDue t sends n next (act ∷ acts) =
+    Heard t (IsDue t sends n (SentBy next acts)) act × AllDue t sends n (Some act) acts
 
-  -- one of them
-  pub due_at : (next : Option Act) (later : List Act) (act : Act) (earlier : List Act) →
-      AllDue next (later ++ act ∷ earlier) → Due (next_of next later) earlier act
-  due_at next [] act earlier all = all.0
-  due_at next (y ∷ later) act earlier all = due_at (Some y) later act earlier all.1
+-- so it is up to a higher number, and if more comes next
+pub due_more : (t : Terms) (sends : Bool) (n m : ℕ) → n ≤ m → (before next : Option Act) →
+    ((act : Act) → IsNext before act → IsNext next act) → (acts : List Act) → AllDue t sends n before acts →
+    AllDue t sends m next acts
+due_more t sends n m up before next to [] all = tt
+due_more t sends n m up before next to (act ∷ acts) all =
+    search (
+      rules,
+      heard_weaker,
+      due_weaker,
+      said_weaker,
+      due_more t sends n m up (Some act) (Some act) (λ a is. is) acts all.1,
+    )
 
-pub sent_by_any : (next : Option Act) (act : Act) (acts : List Act) → SentBy None act acts → SentBy next act acts
-sent_by_any next act acts (inl h) = inl h
-sent_by_any next act acts (inr h) = absurd h
+-- so it is of one of them
+pub due_at : (t : Terms) (sends : Bool) (n : ℕ) (next : Option Act) (later : List Act) (act : Act) (earlier : List Act) →
+    AllDue t sends n next (later ++ act ∷ earlier) →
+    Heard t (IsDue t sends n (SentBy (next_of next later) earlier)) act
+due_at t sends n next [] act earlier all = all.0
+due_at t sends n next (y ∷ later) act earlier all = due_at t sends n (Some y) later act earlier all.1
 
-pub next_any : (t : Terms) (next : Option Act) (acts : List Act) (j : ℕ) → HasNext t None acts j → HasNext t next acts j
-next_any t next acts j h = (h.0, h.1, sent_by_any next (Said t.peer (data_bytes j h.0)) acts h.2)
+-- the numbers that have been said once an end is so far: those of blocks, and ACK 0 of a client that an OACK opened
+abbrev pub Counts : Side → Terms → Bool → ℕ → Type 0
+Counts side t sends j = (1 ≤ j) ⊎ ((sends ≡ false) × (is_client side ≡ true) × (t.by_oack ≡ true))
 
-pub block_due_any : (t : Terms) (next : Option Act) (acts : List Act) (act : Act) → BlockDue t None acts act →
-    BlockDue t next acts act
-block_due_any t next acts (Took from bytes) due = λ is. (
-  λ k s. next_any t next acts (k + 1) ((due is).0 k s),
-  λ options s. next_any t next acts 1 ((due is).1 options s),
-)
-block_due_any t next acts (Lost from bytes) due = tt
-block_due_any t next acts (Said to bytes) due = tt
-block_due_any t next acts Timed due = tt
-
-pub ack_due_any : (t : Terms) (next : Option Act) (acts : List Act) (act : Act) → AckDue t None acts act →
-    AckDue t next acts act
-ack_due_any t next acts (Took from bytes) due = λ is. (
-  λ k piece s. sent_by_any next (Said t.peer (ack_bytes k)) acts ((due is).0 k piece s),
-  λ options s. sent_by_any next (Said t.peer (ack_bytes 0)) acts ((due is).1 options s),
-)
-ack_due_any t next acts (Lost from bytes) due = tt
-ack_due_any t next acts (Said to bytes) due = tt
-ack_due_any t next acts Timed due = tt
+-- what is due for the packet has been said
+abbrev pub IsAnswered : Side → Terms → Bool → ℕ → Packet → Type 0
+IsAnswered side t sends n p = DueSo p sends (λ j. (j ≤ n) × Counts side t sends j)
 
 -- the OACK of a server's end that has no other number yet
-abbrev pub IsOack : Side → List ℕ → ℕ → Type 0
-IsOack side bytes n =
-    (n ≡ 0) × (is_client side ≡ false)
-    × ((options : List RawOption) × IsValid (Oack options) × (bytes ≡ canonical (Oack options)))
+abbrev pub IsOack : Packet → Side → ℕ → Type 0
+IsOack (Oack options) side n = (is_client side ≡ false) × (n ≡ 0)
+IsOack p side n = ⊥
 
 -- the blocks of a sender's file can be numbered, and sent
 pub record CanNumber (length : ℕ) (t : Terms) : Type 0 where
   pub fits : length < 65535 * t.size
   pub sized : t.size ≤ MAX_BLOCK
 
--- a sender whose newest block has this number, and which sent these bytes last, to this endpoint
-pub record GivesSo (acts : List Act) (side : Side) (to : Endpoint) (bytes : List ℕ) (t : Terms) (n : ℕ)
+-- an end with a peer that has come to this number, and sent these bytes last, to this endpoint
+pub record TalksSo (sends : Bool) (acts : List Act) (role : Role) (to : Endpoint) (bytes : List ℕ) (t : Terms) (n : ℕ)
     : Type 0 where
-  pub side_is : is_sender side ≡ true
+  pub side_is : is_sender role.side ≡ sends
+  pub sender : sends ≡ true → CanNumber role.length t × (is_client role.side ≡ true → 1 ≤ n)
   pub to_is : to ≡ t.peer
-  pub said : ((piece : List ℕ) × IsValid (Data n piece) × (bytes ≡ data_bytes n piece)) ⊎ IsOack side bytes n
-  pub acks : AllByRecursion (AckBelow t n) acts
-  pub oacks : AllByRecursion (OackAtClient side t) acts
-  pub blocks : (j : ℕ) → 1 ≤ j → j ≤ n → HasBlock t acts j
-  pub low : is_client side ≡ true → 1 ≤ n
-  pub due : AllDue (BlockDue t) None acts
+  pub said : (p : Packet) × (Says p sends n ⊎ IsOack p role.side n) × Spells p (canonical p) × (bytes ≡ canonical p)
+  pub sent : (j : ℕ) → Counts role.side t sends j → j ≤ n → SaidSo (Among acts) t sends j
+  pub due : AllDue t sends n None acts
 
--- a receiver that has stored so many blocks
-pub record TakesSo (acts : List Act) (side : Side) (to : Endpoint) (bytes : List ℕ) (t : Terms) (n : ℕ)
-    : Type 0 where
-  pub side_is : is_sender side ≡ false
-  pub to_is : to ≡ t.peer
-  pub said : (IsValid (Ack n) × (bytes ≡ ack_bytes n)) ⊎ IsOack side bytes n
-  pub blocks : AllByRecursion (BlockUpTo t n) acts
-  pub acks : (j : ℕ) → 1 ≤ j → j ≤ n → HasAck t acts j
-  -- a client that an OACK opened has answered it
-  pub opened : is_client side ≡ true → t.by_oack ≡ true → HasAck t acts 0
-  pub oacks : AllByRecursion (OackOpened side t) acts
-  pub due : AllDue (AckDue t) None acts
+-- what is known of an end by the phase that it is in, or timed out in
+abbrev pub Knows : List Act → Role → Endpoint → List ℕ → Phase → Type 0
+Knows acts role to bytes (Waiting asked limit) =
+    (is_client role.side ≡ true) × IsAskable asked × AllByRecursion (NotFrom to) acts
+Knows acts role to bytes (Sending t n) = TalksSo true acts role to bytes t n
+Knows acts role to bytes (Receiving t n) = TalksSo false acts role to bytes t n
+Knows acts role to bytes phase = ⊥
 
 -- so it is of an end that waits for its first answer, sends or receives, or it is over
 pub data Stands (acts : List Act) (e : EndState) : Type 0 where
-  Asks : (asked : Asked) (limit : ℕ) (is : IsIn e (Waiting asked limit)) → is_client e.role.side ≡ true
-      → IsAskable asked → AllByRecursion (NotFrom e.position.last_sent_to) acts
-      → IsCopied acts (newest e) e.role.retries e.position.retries_left (more_of e (Waiting asked limit) is) → Stands acts e
-  Gives : (t : Terms) (n : ℕ) (is : IsIn e (Sending t n))
-      → GivesSo acts e.role.side e.position.last_sent_to e.position.last_sent t n
-      → CanNumber e.role.length t
-      → IsCopied acts (newest e) e.role.retries e.position.retries_left (more_of e (Sending t n) is) → Stands acts e
-  Takes : (t : Terms) (n : ℕ) (is : IsIn e (Receiving t n))
-      → TakesSo acts e.role.side e.position.last_sent_to e.position.last_sent t n
-      → IsCopied acts (newest e) e.role.retries e.position.retries_left (more_of e (Receiving t n) is) → Stands acts e
+  Goes : (p : Phase) (is : IsIn e p) → Knows acts e.role e.position.last_sent_to e.position.last_sent p
+      → IsCopied acts (newest e) e.role.retries e.position.retries_left (more_of e p is) → Stands acts e
   Over : IsOver e → Stands acts e

@@ -1,9 +1,11 @@
 -- An end stands as it did once more was done that is nothing new to it.
-use Rattle.tftp_lives.proofs.Common.{ℕ, List, ◌∷◌, Option, Some, None, ap, arith, inr, Endpoint, Waiting, Sending}
-use Rattle.tftp_lives.proofs.Common.{Receiving, Terms, Side, EndState, Reply, Act, Lost, Said, newest, with_reply}
-use Rattle.tftp_lives.proofs.Stands.{AckBelow, AckDue, BlockDue, BlockUpTo, GivesSo, IsCopied, NotFrom}
-use Rattle.tftp_lives.proofs.Stands.{OackAtClient, OackOpened, Stands, Asks, Gives, Takes, Over, TakesSo, ack_due_any, all_more}
-use Rattle.tftp_lives.proofs.Stands.{block_due_any, copies_on, due_any, more_of, timed_on}
+use Rattle.std.proofs.Common.{rules}
+use Rattle.tftp_lives.proofs.Common.{ℕ, ◌≤◌, Bool, true, false, List, ◌∷◌, Option, Some, None, ap, arith, inl, inr}
+use Rattle.tftp_lives.proofs.Common.{Endpoint, Phase, Waiting, Sending, Receiving, Terms, Role, EndState, Packet, Reply}
+use Rattle.tftp_lives.proofs.Common.{Act, Lost, Said, with_reply}
+use Rattle.tftp_lives.proofs.Stands.{Among, Counts, Heard, IsAnswered, IsCopied, IsDue, Knows, NotFrom, SaidSo, SentBy}
+use Rattle.tftp_lives.proofs.Stands.{Stands, Goes, Over, TalksSo, copies_on, due_more, due_weaker, heard_weaker}
+use Rattle.tftp_lives.proofs.Stands.{said_weaker, timed_on}
 
 -- whatever that is
 pub copied_on : (act : Act) (acts : List Act) (last : Act) (retries left more : ℕ) →
@@ -21,80 +23,47 @@ copied_on act acts last retries left more c =
       timeouts = omega (arith, l, m);
     }
 
-pub copied_more : (acts : List Act) (last : Act) (retries left more : ℕ) (reply : Option Reply) →
-    IsCopied acts last retries left more → IsCopied (with_reply reply acts) last retries left more
-copied_more acts last retries left more None c = c
-copied_more acts last retries left more (Some reply) c =
-    copied_on (Said reply.to reply.bytes) acts last retries left more c
-
--- an act that is nothing new to a sender
-pub gives_on : (act : Act) (acts : List Act) (side : Side) (to : Endpoint) (bytes : List ℕ) (t : Terms) (n : ℕ) →
-    AckBelow t n act → OackAtClient side t act → BlockDue t None acts act → GivesSo acts side to bytes t n →
-    GivesSo (act ∷ acts) side to bytes t n
-gives_on act acts side to bytes t n ack oack now g = record {
+-- what it heard now is answered
+pub talks_on : (act : Act) (acts : List Act) (sends : Bool) (role : Role) (to : Endpoint) (bytes : List ℕ) (t : Terms)
+    (n : ℕ) → Heard t (IsAnswered role.side t sends n) act → TalksSo sends acts role to bytes t n →
+    TalksSo sends (act ∷ acts) role to bytes t n
+talks_on act acts sends role to bytes t n now g = record {
   side_is = g.side_is;
+  sender = g.sender;
   to_is = g.to_is;
   said = g.said;
-  acks = (ack, g.acks);
-  oacks = (oack, g.oacks);
-  blocks = λ j low high. let b = g.blocks j low high in (b.0, b.1, inr b.2);
-  low = g.low;
-  due = (now, due_any (BlockDue t) (block_due_any t) (Some act) acts g.due);
+  sent = λ j counts few.
+      said_weaker (Among acts) (Among (act ∷ acts)) t sends j (λ a h. inr h) (g.sent j counts few);
+  due = (
+    heard_weaker t (IsAnswered role.side t sends n) (IsDue t sends n (SentBy None acts)) (λ p.
+        due_weaker p sends (λ j. (j ≤ n) × Counts role.side t sends j) (λ j. (j ≤ n) × SaidSo (SentBy None acts) t sends j)
+        (λ j h. (h.0, said_weaker (Among acts) (SentBy None acts) t sends j (λ a s. inl s) (g.sent j h.1 h.0)))) act now,
+    due_more t sends n n (omega arith) None (Some act) (λ a is. absurd is) acts g.due,
+  );
 }
 
--- and to a receiver
-pub takes_on : (act : Act) (acts : List Act) (side : Side) (to : Endpoint) (bytes : List ℕ) (t : Terms) (n : ℕ) →
-    BlockUpTo t n act → OackOpened side t act → AckDue t None acts act → TakesSo acts side to bytes t n →
-    TakesSo (act ∷ acts) side to bytes t n
-takes_on act acts side to bytes t n block oack now g = record {
-  side_is = g.side_is;
-  to_is = g.to_is;
-  said = g.said;
-  blocks = (block, g.blocks);
-  acks = λ j low high. inr (g.acks j low high);
-  opened = λ client by. inr (g.opened client by);
-  oacks = (oack, g.oacks);
-  due = (now, due_any (AckDue t) (ack_due_any t) (Some act) acts g.due);
-}
+-- an act that handles nothing is nothing to it
+pub knows_on : (act : Act) → ((server : Endpoint) → NotFrom server act) →
+    ((t : Terms) (P : Packet → Type 0) → Heard t P act) → (acts : List Act) (role : Role) (to : Endpoint)
+    (bytes : List ℕ) (p : Phase) → Knows acts role to bytes p → Knows (act ∷ acts) role to bytes p
+knows_on act none quiet acts role to bytes (Waiting asked limit) k = (k.0, k.1, (none to, k.2))
+knows_on act none quiet acts role to bytes (Sending t n) g = search (rules, talks_on, true)
+knows_on act none quiet acts role to bytes (Receiving t n) g = search (rules, talks_on, false)
+knows_on act none quiet acts role to bytes p k = absurd k
 
-pub gives_more : (acts : List Act) (side : Side) (to : Endpoint) (bytes : List ℕ) (t : Terms) (n : ℕ)
-    (reply : Option Reply) → GivesSo acts side to bytes t n → GivesSo (with_reply reply acts) side to bytes t n
-gives_more acts side to bytes t n None g = g
-gives_more acts side to bytes t n (Some reply) g =
-    gives_on (Said reply.to reply.bytes) acts side to bytes t n tt tt tt g
-
-pub takes_more : (acts : List Act) (side : Side) (to : Endpoint) (bytes : List ℕ) (t : Terms) (n : ℕ)
-    (reply : Option Reply) → TakesSo acts side to bytes t n → TakesSo (with_reply reply acts) side to bytes t n
-takes_more acts side to bytes t n None g = g
-takes_more acts side to bytes t n (Some reply) g =
-    takes_on (Said reply.to reply.bytes) acts side to bytes t n tt tt tt g
+stands_on : (act : Act) → ((server : Endpoint) → NotFrom server act) →
+    ((t : Terms) (P : Packet → Type 0) → Heard t P act) → (acts : List Act) (e : EndState) → Stands acts e →
+    Stands (act ∷ acts) e
+stands_on act none quiet acts e (Goes p is k c) =
+    Goes p is (knows_on _ none quiet _ _ _ _ p k) (copied_on act _ _ _ _ _ c)
+stands_on act none quiet acts e (Over over) = Over over
 
 pub stands_more : (acts : List Act) (e : EndState) (reply : Option Reply) → Stands acts e →
     Stands (with_reply reply acts) e
-stands_more acts e reply (Asks asked limit is client askable none c) =
-    Asks asked limit is client askable
-    (all_more (NotFrom e.position.last_sent_to) (λ to bytes. tt) acts reply none)
-    (copied_more acts (newest e) e.role.retries e.position.retries_left (more_of e (Waiting asked limit) is) reply c)
-stands_more acts e reply (Gives t n is g f c) =
-    Gives t n is (gives_more acts e.role.side e.position.last_sent_to e.position.last_sent t n reply g) f
-    (copied_more acts (newest e) e.role.retries e.position.retries_left (more_of e (Sending t n) is) reply c)
-stands_more acts e reply (Takes t n is g c) =
-    Takes t n is (takes_more acts e.role.side e.position.last_sent_to e.position.last_sent t n reply g)
-    (copied_more acts (newest e) e.role.retries e.position.retries_left (more_of e (Receiving t n) is) reply c)
-stands_more acts e reply (Over over) = Over over
+stands_more acts e None h = h
+stands_more acts e (Some reply) h = stands_on (Said reply.to reply.bytes) (λ server. tt) (λ t P. tt) acts e h
 
 -- a datagram that it lost is nothing to it
 pub stands_lost : (from : Endpoint) (bytes : List ℕ) (acts : List Act) (e : EndState) → Stands acts e →
     Stands (Lost from bytes ∷ acts) e
-stands_lost from bytes acts e (Asks asked limit is client askable none c) =
-    Asks asked limit is client askable (tt, none)
-    (copied_on (Lost from bytes) acts (newest e) e.role.retries e.position.retries_left (more_of e (Waiting asked limit) is) c)
-stands_lost from bytes acts e (Gives t n is g f c) =
-    Gives t n is
-    (gives_on (Lost from bytes) acts e.role.side e.position.last_sent_to e.position.last_sent t n tt tt tt g) f
-    (copied_on (Lost from bytes) acts (newest e) e.role.retries e.position.retries_left (more_of e (Sending t n) is) c)
-stands_lost from bytes acts e (Takes t n is g c) =
-    Takes t n is
-    (takes_on (Lost from bytes) acts e.role.side e.position.last_sent_to e.position.last_sent t n tt tt tt g)
-    (copied_on (Lost from bytes) acts (newest e) e.role.retries e.position.retries_left (more_of e (Receiving t n) is) c)
-stands_lost from bytes acts e (Over over) = Over over
+stands_lost from bytes acts e h = stands_on (Lost from bytes) (λ server. tt) (λ t P. tt) acts e h

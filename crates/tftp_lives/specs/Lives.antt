@@ -43,24 +43,19 @@ IsNext (Some next) act = next ≡ act
 -- how many of them are timeouts
 abbrev pub timed : List Act → ℕ
 timed [] = 0
-timed (Took from bytes ∷ acts) = timed acts
-timed (Lost from bytes ∷ acts) = timed acts
-timed (Said to bytes ∷ acts) = timed acts
 timed (Timed ∷ acts) = 1 + timed acts
+timed (act ∷ acts) = timed acts
 
 -- it is the receipt of these bytes from there, whether they are handled or lost
 abbrev pub IsReceipt : Endpoint → List ℕ → Act → Type 0
 IsReceipt from bytes (Took source content) = (source ≡ from) × (content ≡ bytes)
 IsReceipt from bytes (Lost source content) = (source ≡ from) × (content ≡ bytes)
-IsReceipt from bytes (Said to content) = ⊥
-IsReceipt from bytes Timed = ⊥
+IsReceipt from bytes act = ⊥
 
 -- each datagram that was received is handled
 abbrev pub IsNoLoss : Act → Type 0
-IsNoLoss (Took from bytes) = Unit {0}
 IsNoLoss (Lost from bytes) = ⊥
-IsNoLoss (Said to bytes) = Unit {0}
-IsNoLoss Timed = Unit {0}
+IsNoLoss act = Unit {0}
 
 abbrev pub HandlesAll : List Act → Type 0
 HandlesAll acts = AllByRecursion IsNoLoss acts

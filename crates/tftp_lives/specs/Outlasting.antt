@@ -8,7 +8,7 @@ use Rattle.tftp_ends.specs.declared.endpoint.Endpoint.{Endpoint}
 use Rattle.tftp_ends.specs.declared.outcome.Outcome.TheVariants as outcomes
 use Rattle.tftp_ends.specs.End.{EndState, is_complete, outcome_of}
 use Rattle.tftp_ends.specs.Run.{IsOpen}
-use Rattle.tftp_lives.specs.Lives.{Act, Took, Lost, Said, Timed, HandlesAll, IsReceipt, Life}
+use Rattle.tftp_lives.specs.Lives.{Act, Took, Said, Timed, HandlesAll, IsReceipt, Life}
 use Rattle.tftp_lives.specs.Unanswered.{AreOpposite, Begins, IsOver}
 
 -- an act of one of two ends: of the first, if that is true
@@ -26,10 +26,8 @@ acts_of false ((false, act) ∷ order) = act ∷ acts_of false order
 -- how many timeouts of the two there are
 abbrev pub timeouts : List OneAct → ℕ
 timeouts [] = 0
-timeouts ((first, Took from bytes) ∷ order) = timeouts order
-timeouts ((first, Lost from bytes) ∷ order) = timeouts order
-timeouts ((first, Said to bytes) ∷ order) = timeouts order
 timeouts ((first, Timed) ∷ order) = 1 + timeouts order
+timeouts ((first, act) ∷ order) = timeouts order
 
 module _ (order : List OneAct) where
   -- once the limit of timeouts has passed since x, at a, sent a datagram to y, at b, y had received

@@ -7,7 +7,7 @@ use Rattle.tftp_wire.specs.Spelling.{IsValid, Spells, canonical}
 use Rattle.tftp_wire.specs.declared.limits.TheConstants.{MAX_BLOCK}
 use Rattle.tftp_wire.specs.declared.mode.Mode.{Mode}
 use Rattle.tftp_wire.specs.declared.packet.Packet.{Packet}
-use Rattle.tftp_wire.specs.declared.packet.Packet.TheVariants.{Read, Write, Data, Ack, Error, Oack}
+use Rattle.tftp_wire.specs.declared.packet.Packet.TheVariants.{Data, Ack, Oack}
 use Rattle.tftp_negotiate.specs.Agreed.{agreed_options, size}
 use Rattle.tftp_negotiate.specs.Asked.{IsAskable}
 use Rattle.tftp_negotiate.specs.declared.asked.Asked.{Asked}
@@ -32,9 +32,7 @@ HasSaid e (Ack number) =
     (is_sender e.role.side ≡ false) × (number ≡ number_of e.position.phase)
 HasSaid e (Oack options) =
     (is_client e.role.side ≡ false) × (number_of e.position.phase ≡ 0)
-HasSaid e (Read request) = ⊥
-HasSaid e (Write request) = ⊥
-HasSaid e (Error code text) = ⊥
+HasSaid e packet = ⊥
 
 -- the packet that it waits for: a sender for the ACK of its newest block, a receiver for the next
 -- block
@@ -43,22 +41,13 @@ Awaits e (Ack number) =
     (is_sender e.role.side ≡ true) × (number ≡ number_of e.position.phase)
 Awaits e (Data number bytes) =
     (is_sender e.role.side ≡ false) × (number ≡ number_of e.position.phase + 1)
-Awaits e (Oack options) = ⊥
-Awaits e (Read request) = ⊥
-Awaits e (Write request) = ⊥
-Awaits e (Error code text) = ⊥
+Awaits e packet = ⊥
 
 -- an outcome of an end that is not complete, for which retries are no cause
 abbrev pub IsOther : Outcome → Type 0
 IsOther outcomes.TimedOut = ⊥
 IsOther outcomes.Complete = ⊥
-IsOther (outcomes.PeerError code) = Unit {0}
-IsOther outcomes.Illegal = Unit {0}
-IsOther (outcomes.Refused refusal) = Unit {0}
-IsOther outcomes.TooLarge = Unit {0}
-IsOther outcomes.StoreFault = Unit {0}
-IsOther outcomes.SourceFault = Unit {0}
-IsOther outcomes.NotNetascii = Unit {0}
+IsOther outcome = Unit {0}
 
 -- the end is complete, or it closed, and not for want of retries
 abbrev pub IsOver : EndState → Type 0

@@ -4,8 +4,8 @@ use Rattle.std.specs.Fmt.{decimal}
 use Rattle.tftp_play.specs.declared.play.fault.PlayFault.{PlayFault}
 use Rattle.tftp_play.specs.declared.play.fault.PlayFault.TheVariants.{Unreadable, Line, Unwritable}
 use Rattle.tftp_play.specs.declared.play.fault.PlayFault.TheVariants.{Closed, Undrawn, Memory}
-use Rattle.tftp_script.specs.declared.script.ScriptFault.{ScriptFault}
-use Rattle.tftp_script.specs.declared.script.ScriptFault.TheVariants as script_faults
+use Rattle.tftp_play.specs.declared.script.ScriptFault.{ScriptFault}
+use Rattle.tftp_play.specs.declared.script.ScriptFault.TheVariants as script_faults
 
 -- the message of a fault, without its line feed
 abbrev pub fault_text : PlayFault → List ℕ

@@ -11,6 +11,7 @@ mod script_run;
 mod status;
 
 use crate::recording::Recording;
+use crate::script::Script;
 pub(crate) use event_name::EventNames;
 pub(crate) use fault::{PlayFault, Playing};
 use script_run::{Played, ScriptRun};
@@ -20,7 +21,6 @@ use std::alloc::Global;
 use std::io::{self, Read, Write};
 use tftp_diagram::{Diagram, svg_text};
 use tftp_player::World;
-use tftp_script::Script;
 
 /// A run over readers and writers, which have no names, as the specification has it.
 pub(crate) const PLAIN: Playing<'static> = Playing {

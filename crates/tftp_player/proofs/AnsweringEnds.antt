@@ -8,7 +8,6 @@ use Rattle.tftp_player.proofs.Common.{timeout_response, PhaseKept, two_hosts, se
 use Rattle.tftp_player.proofs.Common.{Machine, OpenEnd, peer_of, Matches, own_of, decoded_is, IsReached, Behaves}
 use Rattle.tftp_player.proofs.Common.{TakesPeer, WorldState, Open_end, datagram, view_of_end, Refines, Datagram}
 use Rattle.tftp_player.proofs.Common.{Timeout}
-use Rattle.tftp_negotiate.specs.declared.refusal.Refusal.TheVariants as refusals
 use Rattle.tftp_ends.specs.Waiting.{refusal_action}
 use Rattle.tftp_rules.specs.Hosts.{host_of}
 use Rattle.tftp_rules.proofs.Grows.{HasPeer, peer_of as peer_is}

@@ -1,9 +1,9 @@
 -- Transfers that recover before their client has a peer: a first datagram was lost, or a request.
 -- For the law a_transfer_recovers, which is then of some runs.
 use Rattle.tftp_player.proofs.Common.{◌≡◌, false, [], ◌∷◌, Some, refl, arith, rules, inl, inr, slice_get, Kind}
-use Rattle.tftp_player.proofs.Common.{timeout_turn, files_of, sending_end, receiving_end, IsReached, service}
-use Rattle.tftp_player.proofs.Common.{IsAccepted, WorldState, Open_end, world_after, report_of, sent_report, opened_in}
-use Rattle.tftp_player.proofs.Common.{datagram, HasPort, WorldStep, ServiceStep, At_request_port, Deliver, packet_in}
+use Rattle.tftp_player.proofs.Common.{sending_end, receiving_end, IsReached, service, IsAccepted, WorldState}
+use Rattle.tftp_player.proofs.Common.{sent_report, opened_in, datagram, HasPort, WorldStep, ServiceStep}
+use Rattle.tftp_player.proofs.Common.{At_request_port, Deliver, packet_in}
 use Rattle.std.specs.Fmt.{digits}
 use Rattle.tftp_negotiate.specs.Agreement.{taken_option}
 use Rattle.tftp_negotiate.specs.Answer.{answered_option}

@@ -1,11 +1,11 @@
 -- The effect of a request on a world, from what the server answered. For `Ends::ask`, `answer` and their calls.
 use Rattle.tftp_player.proofs.Common.{common_steps, ◌≡◌, ℕ, ◌+◌, ◌<◌, ◌≤◌, List, [], ◌∷◌, ◌++◌, length, Option, Some}
 use Rattle.tftp_player.proofs.Common.{None, refl, sym, ap, ◌∙◌, subst, arith, rules, zero, suc, inl, inr, slice_get}
-use Rattle.tftp_player.proofs.Common.{Packet, IsBlockSize, memory_source, Decodes, outcome_of, Service, memory_meaning}
-use Rattle.tftp_player.proofs.Common.{request_port, Endpoint, OpenEnd, EndsAsk, report_by, said_by, served_end}
-use Rattle.tftp_player.proofs.Common.{AnyRepeats, IsRepeated, Repeats, open_transfers, service, PlayedServer, world_of}
-use Rattle.tftp_player.proofs.Common.{WorldState, WorldEnd, next_port, standing, At_request_port, Delivery, HasPort}
-use Rattle.tftp_player.proofs.Common.{ServiceStep, Datagram, Effect, ServerEnd}
+use Rattle.tftp_player.proofs.Common.{Packet, IsBlockSize, memory_source, Decodes, Service, memory_meaning}
+use Rattle.tftp_player.proofs.Common.{request_port, Endpoint, EndsAsk, report_by, said_by, served_end, AnyRepeats}
+use Rattle.tftp_player.proofs.Common.{IsRepeated, Repeats, open_transfers, service, PlayedServer, world_of, WorldState}
+use Rattle.tftp_player.proofs.Common.{WorldEnd, next_port, standing, At_request_port, Delivery, HasPort, ServiceStep}
+use Rattle.tftp_player.proofs.Common.{Datagram, Effect, ServerEnd}
 use Rattle.tftp_negotiate.specs.declared.limits.Limits.{Limits}
 use Rattle.tftp_server.specs.Request.{AdmissionState, AdmitsBeside, CarriesOut}
 use Rattle.tftp_server.specs.State.{at, without}
@@ -47,14 +47,6 @@ module _ (server : PlayedServer) (occupancy : Occupancy) (from : Endpoint) (byte
       (subst (PortDid w (service w occupancy.is_repeated bytes decoded) asking) (sym carries.left)
       (request_did w asking carries.came s (subst (λ (l : Limits). IsBlockSize l.max_block) s.limits max)
       occupancy.count occupancy.is_repeated admission.ask admits.0 decoded counts admits.1 says admits.2 carries.goes))
-
--- ---- an end of the server as it opens is the world's new end
-record IsNewEnd (w : WorldState) (from : Endpoint) (s : ServerEnd) (x : OpenEnd) : Type 0 where
-  pub is : served_end (next_port w) s ≡ x
-  pub address : x.address ≡ server_at (next_port w)
-  pub still : outcome_of x.state.position.phase ≡ None
-  pub to : x.state.position.last_sent_to ≡ from
-  pub kept : ServerEndKept s
 
 -- ---- whether one of the ends repeats a request
 -- none does if none at an index does

@@ -91,7 +91,6 @@ pub use Rattle.tftp_player.specs.Arriving.{EndsAsk}
 pub use Rattle.tftp_player.specs.Closing.{Blames}
 pub use Rattle.tftp_player.specs.Effect.{report_by, said_by}
 pub use Rattle.tftp_player.specs.EndSteps.{EndTakes}
-pub use Rattle.tftp_player.specs.Lossy.{StoresTook, newest, LossyRun, CountsOn, newest_of}
 pub use Rattle.tftp_player.specs.Openings.{receiving_end, sending_end, reading_client, writing_client, MayGet, MayPut}
 pub use Rattle.tftp_player.specs.Played.{served_end, client_end, records_from}
 pub use Rattle.tftp_player.specs.PlayedWorld.{IsHome, WasPlayed}

@@ -13,7 +13,7 @@ use Rattle.tftp_ends.specs.End.{number_of}
 use Rattle.tftp_rules.specs.Hosts.{host_of}
 use Rattle.tftp_rules.proofs.Grows.{HasPeer as IsPeer, peer_of as peer_is}
 use Rattle.tftp_rules.proofs.Steps.{same_size}
-use Rattle.tftp_player.specs.Lossy.{SendersHearTheEnd}
+use Rattle.tftp_player.specs.Recovering.{SendersHearTheEnd}
 use Rattle.tftp_player.specs.WorldSafety.{IsReceiver}
 use Rattle.tftp_player.proofs.StraightActions.{from_peer, acked_last}
 use Rattle.tftp_player.proofs.StraightOpenings.{any_of}

@@ -1,12 +1,11 @@
 -- A turn that sends an ERROR to its peer closes the end, because its store refused.
 -- For ErrorsKnown.
-use Rattle.tftp_player.proofs.Common.{◌≡◌, ℕ, Bool, true, List, Option, Some, None, refl, rules, ◌≢◌, if◌then◌else◌}
-use Rattle.tftp_player.proofs.Common.{Packet, StoreFault, Action, Respond, Response, Retransmit, DiskFull, Outcome}
-use Rattle.tftp_player.proofs.Common.{Fresh, Phase, Sending, Receiving, Dallying, EndState, terms_of, outcome_of}
-use Rattle.tftp_player.proofs.Common.{Position, timeout_response, Turn, Reply, AcksAgain, holding, response_turn}
-use Rattle.tftp_player.proofs.Common.{sent_turn, refused_turn, commit_reply, ack_bytes, data_bytes, error_bytes}
-use Rattle.tftp_player.proofs.Common.{Endpoint, At_server, Elsewhere, peer_of, Blames, TurnBy, Responds, Sends_data}
-use Rattle.tftp_player.proofs.Common.{Has_stored}
+use Rattle.tftp_player.proofs.Common.{◌≡◌, ℕ, Bool, true, List, Option, Some, None, refl, rules, ◌≢◌, Packet}
+use Rattle.tftp_player.proofs.Common.{StoreFault, Action, Respond, Response, Retransmit, DiskFull, Outcome, Fresh}
+use Rattle.tftp_player.proofs.Common.{Phase, Sending, Receiving, Dallying, EndState, terms_of, outcome_of, Position}
+use Rattle.tftp_player.proofs.Common.{timeout_response, Turn, Reply, AcksAgain, holding, response_turn, sent_turn}
+use Rattle.tftp_player.proofs.Common.{refused_turn, commit_reply, ack_bytes, data_bytes, error_bytes, Endpoint}
+use Rattle.tftp_player.proofs.Common.{At_server, Elsewhere, peer_of, Blames, TurnBy, Responds, Sends_data, Has_stored}
 use Rattle.tftp_file.specs.declared.fault.StoreFault.TheVariants.{Full}
 use Rattle.tftp_ends.specs.declared.error_reply.ErrorReply.TheVariants.{FileChanged, UnknownTransferId}
 use Rattle.tftp_ends.specs.declared.outcome.Outcome.TheVariants as outcomes

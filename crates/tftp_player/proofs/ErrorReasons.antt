@@ -1,7 +1,7 @@
 -- Which actions send an ERROR, and why.
 -- For ErrorAnswers.
 use Rattle.tftp_player.proofs.Common.{◌≡◌, ℕ, Bool, true, false, List, Option, Some, arith, rules, Packet, Error}
-use Rattle.tftp_player.proofs.Common.{Action, Respond, Response, Outcome, Terms, EndState, terms_of, is_wrong_peer}
+use Rattle.tftp_player.proofs.Common.{Action, Respond, Response, Terms, EndState, terms_of, is_wrong_peer}
 use Rattle.tftp_player.proofs.Common.{datagram_action, ack_bytes, data_bytes, Endpoint, Blames, MayTake, datagram_takes}
 use Rattle.tftp_ends.specs.declared.action.Response.TheVariants.{WrongPeer, Close, Refuse}
 use Rattle.tftp_ends.specs.declared.outcome.Outcome.TheVariants as outcomes

@@ -9,7 +9,6 @@ use Rattle.tftp_player.proofs.Common.{two_hosts, Endpoint, Elsewhere, OpenEnd, e
 use Rattle.tftp_player.proofs.Common.{WorldState, WorldEnd, Open_end, Closed_end, standing, datagram, in_the_way}
 use Rattle.tftp_player.proofs.Common.{file_at, new_world, end_address, end_record, Refines, PlaysAll, may_refuse_commit}
 use Rattle.tftp_player.proofs.Common.{armed_end, world_sink, Datagram, Event, TurnBy, acts_by}
-use Rattle.tftp_file.specs.declared.fault.StoreFault.TheVariants as faults
 use Rattle.tftp_ends.specs.declared.outcome.Outcome.TheVariants as outcomes
 use Rattle.tftp_rules.specs.Hosts.{host_of}
 use Rattle.tftp_rules.proofs.SaidLemmas.{says_spelled}

@@ -2,12 +2,12 @@
 -- For the law no_end_is_blamed.
 use Rattle.tftp_player.proofs.Common.{common_steps, ◌≡◌, ℕ, ◌+◌, ◌<◌, suc, zero, true, false, List, [], ◌∷◌, ◌++◌}
 use Rattle.tftp_player.proofs.Common.{length, Option, Some, None, refl, sym, ap, ◌∙◌, subst, arith, inl, inr, rules}
-use Rattle.tftp_player.proofs.Common.{◌≢◌, if◌then◌else◌, nat_eq, option_map, slice_get, slice_set, Contains, pointwise}
-use Rattle.tftp_player.proofs.Common.{true≢false, cases_Bool, Contains-append_cases, same_Some, slice_get_within}
-use Rattle.tftp_player.proofs.Common.{Spells, Mode, Error, Known, Files, memory_source, Holding, Outcome, Phase, Terms}
-use Rattle.tftp_player.proofs.Common.{is_client, terms_of, outcome_of, is_wrong_peer, datagram_action, serving_read}
-use Rattle.tftp_player.proofs.Common.{Turn, Reply, timeout_turn, error_bytes, PhaseKept, request_port, server_ip}
-use Rattle.tftp_player.proofs.Common.{two_hosts, Endpoint, At_server, Elsewhere, OpenEnd, end_after, files_of, peer_of}
+use Rattle.tftp_player.proofs.Common.{◌≢◌, nat_eq, option_map, slice_get, slice_set, Contains, pointwise, true≢false}
+use Rattle.tftp_player.proofs.Common.{cases_Bool, Contains-append_cases, same_Some, slice_get_within, Spells, Mode}
+use Rattle.tftp_player.proofs.Common.{Error, Known, Files, memory_source, Holding, Phase, Terms, is_client, terms_of}
+use Rattle.tftp_player.proofs.Common.{outcome_of, is_wrong_peer, datagram_action, serving_read, Turn, Reply}
+use Rattle.tftp_player.proofs.Common.{timeout_turn, error_bytes, PhaseKept, request_port, server_ip, two_hosts}
+use Rattle.tftp_player.proofs.Common.{Endpoint, At_server, Elsewhere, OpenEnd, end_after, files_of, peer_of}
 use Rattle.tftp_player.proofs.Common.{slice_get-set_cases, slice_get-set_same, slice_get-push_cases, Service, Silent}
 use Rattle.tftp_player.proofs.Common.{Refused, Sends, Takes, reading_client, writing_client, sending_end, receiving_end}
 use Rattle.tftp_player.proofs.Common.{WorldState, WorldEnd, Open_end, Closed_end, standing, datagram, replied}

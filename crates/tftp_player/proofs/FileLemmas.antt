@@ -1,6 +1,6 @@
 -- The server's files by path, after one was added. For DraftLemmas and ServerTurns.
-use Rattle.tftp_player.proofs.Common.{◌≡◌, ◌≢◌, ℕ, Bool, true, false, List, Option, Some, None, refl, ◌&&◌, not}
-use Rattle.tftp_player.proofs.Common.{is_some, true≢false, FileList, file_at, in_the_way}
+use Rattle.tftp_player.proofs.Common.{◌≡◌, ℕ, Bool, true, false, List, Option, Some, None, refl, ◌&&◌, not, is_some}
+use Rattle.tftp_player.proofs.Common.{true≢false, FileList, file_at, in_the_way}
 use Rattle.tftp_store.specs.Store.{with_file, is_taken}
 use Rattle.tftp_rules.proofs.Entries.{lookup-insert_other, lookup-insert_same, texts}
 use Rattle.tftp_player.specs.WorldSteps.{IsStored}

@@ -1,13 +1,11 @@
 -- What a client that waits does at the first datagram of its server's end.
--- For RecoveringReads and RecoveringWrites, and for LossyReads and LossyWrites.
-use Rattle.tftp_player.proofs.Common.{common_steps, ◌≡◌, ℕ, ◌+◌, ◌*◌, ◌<◌, ◌≤◌, Bool, true, false, List, [], ◌++◌}
-use Rattle.tftp_player.proofs.Common.{length, take, Some, refl, sym, ap, ◌∙◌, arith, rules, ◌≢◌, if◌then◌else◌, Mode}
-use Rattle.tftp_player.proofs.Common.{Packet, Data, Asked, DEFAULT_BLOCK, block, block_count, wire_text, Send, Store}
-use Rattle.tftp_player.proofs.Common.{Waiting, Terms, datagram_action, packet_action, EndState, is_sender, next_action}
-use Rattle.tftp_player.proofs.Common.{receiver_action, begin_action, default_terms, reader_action, writer_action}
-use Rattle.tftp_player.proofs.Common.{Endpoint, OpenEnd}
+-- For RecoveringReads and RecoveringWrites.
+use Rattle.tftp_player.proofs.Common.{common_steps, ◌≡◌, ℕ, ◌+◌, ◌*◌, ◌≤◌, Bool, true, false, List, [], ◌++◌, length}
+use Rattle.tftp_player.proofs.Common.{take, Some, refl, sym, ap, ◌∙◌, arith, rules, ◌≢◌, if◌then◌else◌, Mode, Packet}
+use Rattle.tftp_player.proofs.Common.{Data, Asked, DEFAULT_BLOCK, block, block_count, wire_text, Store, Waiting, Terms}
+use Rattle.tftp_player.proofs.Common.{datagram_action, packet_action, EndState, is_sender, next_action, receiver_action}
+use Rattle.tftp_player.proofs.Common.{default_terms, reader_action, writer_action, Endpoint, OpenEnd}
 use Rattle.std.proofs.lemmas.Bool.{le-leb}
-use Rattle.tftp_ends.specs.declared.outcome.Outcome.TheVariants as outcomes
 use Rattle.tftp_ends.specs.Waiting.{no_answer}
 use Rattle.tftp_player.proofs.StraightActions.{data_next}
 use Rattle.tftp_player.proofs.StraightRuns.{IsFit, next_is_stored}
@@ -24,10 +22,6 @@ module _ (e : EndState) (asked : Asked) (limit : ℕ) (from : Endpoint) (p : Pac
       packet_action e from (Some p) (Waiting asked limit)
       ≡ writer_action e.role.mode asked limit e.role.length from (Some p)
   writes_as sends = search rules
-
--- a writer begins, if its blocks can be numbered
-pub begins_with : (count : ℕ) (terms : Terms) → count < 65535 * terms.size → begin_action count terms ≡ Send terms 1
-begins_with count terms few = search rules
 
 -- a reader stores DATA 1 of a sender without options
 module _ (ks kr : ℕ) (apart : kr ≢ ks) (sa ra : Endpoint) (st : Terms) (mode : Mode) (file : List ℕ) (sp : st.peer ≡ ra)

@@ -1,15 +1,12 @@
 -- The ends of a world as a list, with their records, and what a step of one end leaves. For `Ends`' calls and five other
 -- files.
-use Rattle.tftp_player.proofs.Common.{common_steps, ◌≡◌, ℕ, zero, suc, ◌+◌, ◌<◌, Bool, true, false, List, [], ◌∷◌, ◌++◌}
-use Rattle.tftp_player.proofs.Common.{length, set, Some, None, refl, sym, ap, ◌∙◌, subst, arith, rules, slice_get}
-use Rattle.tftp_player.proofs.Common.{slice_set, slice_index_or, same_Some, Record, Endpoint, EndTakes, records_from}
-use Rattle.tftp_player.proofs.Common.{open_transfers, PlayedServer, ArePartsConsistent, world_of, StoredFile, WorldEnd}
-use Rattle.tftp_player.proofs.Common.{end_address, end_record, Effect}
-use Rattle.std.proofs.Common.{cond, count_by}
-use Rattle.std.proofs.lemmas.List.Sums.{sum_by-cons}
+use Rattle.tftp_player.proofs.Common.{◌≡◌, ℕ, zero, suc, ◌+◌, ◌<◌, Bool, false, List, [], ◌∷◌, ◌++◌, length, Some, refl}
+use Rattle.tftp_player.proofs.Common.{sym, ap, ◌∙◌, subst, arith, rules, slice_get, slice_set, slice_index_or}
+use Rattle.tftp_player.proofs.Common.{same_Some, Record, Endpoint, EndTakes, records_from, PlayedServer}
+use Rattle.tftp_player.proofs.Common.{ArePartsConsistent, world_of, StoredFile, WorldEnd, end_address, end_record}
+use Rattle.tftp_player.proofs.Common.{Effect}
 use Rattle.std.proofs.lemmas.Option.{slice_get_read}
 use Rattle.tftp_player.specs.EndSteps.{EndTimesOut}
-use Rattle.tftp_player.specs.Requests.{is_transfer}
 use Rattle.tftp_player.proofs.SentLemmas.{records_count}
 use Rattle.tftp_player.proofs.WorldTurns.{ports_set, ports_push}
 
@@ -23,33 +20,6 @@ pub same_set : {A : Type 0} (xs : List A) (k : ℕ) (x : A) → slice_get xs k �
 same_set [] k x e = refl
 same_set (y ∷ xs) zero x e = ap (λ z. z ∷ xs) (sym (same_Some y x e))
 same_set (y ∷ xs) (suc k) x e = ap (λ zs. y ∷ zs) (same_set xs k x e)
-
--- ---- how many ends of the server are open
-abbrev one_if : Bool → ℕ
-one_if true = 1
-one_if false = 0
-
-one_if_is : (b : Bool) → cond b 1 0 ≡ one_if b
-one_if_is true = refl
-one_if_is false = refl
-
-count_one : {X : Type 0} (test : X → Bool) (x : X) (xs : List X) →
-    count_by test (x ∷ xs) ≡ one_if (test x) + count_by test xs
-count_one test x xs = search (rules, sum_by-cons, one_if_is)
-
-count_set : {X : Type 0} (test : X → Bool) (xs : List X) (k : ℕ) (x y : X) → slice_get xs k ≡ Some x →
-    count_by test (set xs k y) + one_if (test x) ≡ count_by test xs + one_if (test y)
-count_set {X = X} test [] k x y e = absurd (let f : None ≡ Some x = e in cc)
-count_set {X = X} test (z ∷ xs) zero x y e = grind (arith, common_steps)
-count_set {X = X} test (z ∷ xs) (suc k) x y e =
-    omega (arith, count_one test z (set xs k y), count_one test z xs, count_set test xs k x y e)
-
--- an end that stays an open transfer, or stays none, leaves the count
-pub transfers-set : (ends : List WorldEnd) (k : ℕ) (x y : WorldEnd) → slice_get ends k ≡ Some x →
-    is_transfer y ≡ is_transfer x → open_transfers (slice_set ends k y) ≡ open_transfers ends
-transfers-set ends k x y e same =
-    let one : one_if (is_transfer y) ≡ one_if (is_transfer x) = ap one_if same in
-    omega (arith, count_set is_transfer ends k x y e, one)
 
 -- ---- the records
 -- a new end at an index has its record there

@@ -23,7 +23,6 @@ pub mod HostEnds
 pub mod PlayerLemmas
 pub mod ServedLemmas
 pub mod PlayLemmas
-pub mod OpenedLemmas
 pub mod ArrivalLemmas
 pub mod TermsKept
 pub mod RepeatingLemmas
@@ -59,16 +58,6 @@ mod RequestArrives
 mod EndsHeard
 mod EndsStay
 mod OldDatagrams
-mod LossyCounts
-mod LossyPairs
-mod LossySteps
-mod LossyMoves
-mod LossyOpenings
-mod LossyExchange
-mod LossyFirsts
-mod LossyRuns
-mod LossyReads
-mod LossyWrites
-mod LossyWitness
+mod HeardWitness
 mod RecoveringRequests
 pub mod SettledLemmas

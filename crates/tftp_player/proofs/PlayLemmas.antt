@@ -1,13 +1,12 @@
 -- The effect of a timeout and of a refusing store on the world, and what a world returns of the end at a port. For six
 -- functions and ArrivalLemmas.
-use Rattle.tftp_player.proofs.Common.{◌≡◌, ℕ, ◌+◌, ◌-◌, ◌<◌, ◌≤◌, Bool, true, false, List, ◌++◌, length, Option, Some}
-use Rattle.tftp_player.proofs.Common.{None, refl, sym, ap, ◌∙◌, subst, rules, ◌⊎◌, if◌then◌else◌, option_map, slice_get}
+use Rattle.tftp_player.proofs.Common.{◌≡◌, ℕ, ◌+◌, ◌<◌, ◌≤◌, Bool, true, false, List, ◌++◌, length, Option, Some, None}
+use Rattle.tftp_player.proofs.Common.{refl, sym, ap, ◌∙◌, subst, rules, ◌⊎◌, if◌then◌else◌, option_map, slice_get}
 use Rattle.tftp_player.proofs.Common.{slice_set, append-nil, Record, is_sender, record_of, Turn, Reply, reply_bytes}
 use Rattle.tftp_player.proofs.Common.{timeout_turn, Config, Endpoint, OpenEnd, files_of, said_by, report_by}
 use Rattle.tftp_player.proofs.Common.{records_from, PlayedServer, ArePartsConsistent, world_of, WorldState, WorldEnd}
 use Rattle.tftp_player.proofs.Common.{Open_end, Closed_end, end_address, end_record, replied, world_after, report_of}
-use Rattle.tftp_player.proofs.Common.{no_report, WorldStep, armed_end, Datagram, Effect}
-use Rattle.tftp_player.proofs.Common.{Timeout, RefuseStore, Report}
+use Rattle.tftp_player.proofs.Common.{no_report, WorldStep, armed_end, Datagram, Effect, Timeout, RefuseStore, Report}
 use Rattle.std.proofs.Common.{option_and_then}
 use Rattle.std.proofs.lemmas.Bool.Decides.{nat_tests}
 use Rattle.std.proofs.lemmas.Option.{slice_get_past}

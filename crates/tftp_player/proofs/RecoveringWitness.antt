@@ -1,8 +1,7 @@
 -- A transfer that recovers: a read of three blocks of which a datagram was lost.
 -- For the law a_transfer_recovers, which is then of some runs.
-use Rattle.tftp_player.proofs.Common.{ℕ, ◌∷◌, Option, Some, refl, arith, rules, inr, slice_get, timeout_turn, OpenEnd}
-use Rattle.tftp_player.proofs.Common.{files_of, IsReached, WorldState, WorldEnd, Open_end, world_after, report_of}
-use Rattle.tftp_player.proofs.Common.{sent_report}
+use Rattle.tftp_player.proofs.Common.{ℕ, ◌∷◌, Option, Some, refl, arith, rules, inr, slice_get, OpenEnd, IsReached}
+use Rattle.tftp_player.proofs.Common.{WorldState, WorldEnd, Open_end, sent_report}
 use Rattle.std.specs.Fmt.{digits}
 use Rattle.tftp_negotiate.specs.Agreement.{taken_option}
 use Rattle.tftp_negotiate.specs.Answer.{answered_option}

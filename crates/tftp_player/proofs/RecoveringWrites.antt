@@ -24,7 +24,6 @@ use Rattle.tftp_ends.specs.Waiting.{no_answer}
 use Rattle.tftp_player.proofs.SentAgain.{MaySendAgain, retransmits}
 use Rattle.tftp_player.proofs.AnsweringEnds.{reached_ok, client_x, IsWaitedFor, AreMeeting, meeting, offers, waited_by}
 use Rattle.tftp_player.proofs.FirstAnswers.{writes_as}
-use Rattle.tftp_ends.specs.declared.outcome.Outcome.TheVariants as outcomes
 use Rattle.tftp_player.proofs.WorldRuns.{contains_at}
 
 begun_with : (from : Endpoint) (count : ℕ) (r : Result (List Known) Refusal) →

@@ -1,20 +1,18 @@
 -- A client's request arrives at the port of its server, which accepts it: the transfer completes.
 -- For StraightOpenings and RecoveringRequests.
 use Rattle.tftp_player.proofs.Common.{◌≡◌, ℕ, ◌+◌, ◌*◌, ◌-◌, ◌<◌, Bool, true, false, List, [], ◌∷◌, ◌++◌, length, Some}
-use Rattle.tftp_player.proofs.Common.{refl, sym, ap, ◌∙◌, subst, arith, rules, if◌then◌else◌, slice_get, IsAccepted}
-use Rattle.tftp_player.proofs.Common.{read_adds, write_adds, Oack, Data, Ack, Mode, Packet, Spells, size}
-use Rattle.tftp_player.proofs.Common.{agreed_options, agreement, Asked, Known, DEFAULT_BLOCK, block, block_count, Fits}
-use Rattle.tftp_player.proofs.Common.{wire_text, Waiting, Receiving, Terms, is_sender, oack_bytes, ack_bytes}
-use Rattle.tftp_player.proofs.Common.{data_bytes, default_terms, agreed_terms, accept_action, begin_action}
-use Rattle.tftp_player.proofs.Common.{begin_with_action, writer_action, Service, Sends, Takes, request_port, Endpoint}
-use Rattle.tftp_player.proofs.Common.{OpenEnd, peer_of, answer_granted, slice_get-push_old, slice_get-push_new}
-use Rattle.tftp_player.proofs.Common.{spells_own, own_oack, taken_oack, agreed_size, sending_end, receiving_end}
-use Rattle.tftp_player.proofs.Common.{TakesPeer, WorldState, WorldEnd, Open_end, datagram, file_at, OpeningStep}
-use Rattle.tftp_player.proofs.Common.{ServiceStep}
+use Rattle.tftp_player.proofs.Common.{refl, sym, ap, ◌∙◌, subst, arith, rules, slice_get, IsAccepted, read_adds}
+use Rattle.tftp_player.proofs.Common.{write_adds, Oack, Data, Ack, Mode, Packet, Spells, size, agreed_options}
+use Rattle.tftp_player.proofs.Common.{agreement, Asked, Known, DEFAULT_BLOCK, block, block_count, Fits, wire_text}
+use Rattle.tftp_player.proofs.Common.{Waiting, Receiving, Terms, is_sender, oack_bytes, ack_bytes, data_bytes}
+use Rattle.tftp_player.proofs.Common.{default_terms, agreed_terms, accept_action, begin_action, begin_with_action}
+use Rattle.tftp_player.proofs.Common.{writer_action, Service, Sends, Takes, request_port, Endpoint, OpenEnd, peer_of}
+use Rattle.tftp_player.proofs.Common.{answer_granted, slice_get-push_old, slice_get-push_new, spells_own, own_oack}
+use Rattle.tftp_player.proofs.Common.{taken_oack, agreed_size, sending_end, receiving_end, TakesPeer, WorldState}
+use Rattle.tftp_player.proofs.Common.{WorldEnd, Open_end, datagram, file_at, OpeningStep, ServiceStep}
 use Rattle.std.proofs.Common.{◌^◌}
 use Rattle.tftp_player.specs.Straight.{TakesAnswer}
 use Rattle.tftp_negotiate.specs.declared.known.Kind.TheVariants as kinds
-use Rattle.tftp_ends.specs.declared.outcome.Outcome.TheVariants as outcomes
 use Rattle.tftp_player.proofs.AnsweringEnds.{IsWaitedFor, meeting}
 use Rattle.tftp_player.proofs.RecoveringReads.{by_data, by_oack}
 use Rattle.tftp_player.proofs.RecoveringWrites.{sends_y, writes}

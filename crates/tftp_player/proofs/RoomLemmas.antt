@@ -4,24 +4,21 @@ use Rattle.tftp_player.proofs.Common.{◌≡◌, ◌≤◌, ℕ, Bool, true, fal
 use Rattle.tftp_player.proofs.Common.{Ok, Err, sym, subst, arith, rules, ◌+◌, ◌*◌, nat_lt, is_some, option_map}
 use Rattle.tftp_player.proofs.Common.{if◌then◌else◌, Mode, Packet, Read, Write, Data, Ack, Error, Oack, size, agreement}
 use Rattle.tftp_player.proofs.Common.{Asked, Known, Blksize, DEFAULT_BLOCK, Refusal, Files, Source, Sink, Action}
-use Rattle.tftp_player.proofs.Common.{Respond, Send, Store, Response, Retransmit, ErrorReply, Phase, Terms}
-use Rattle.tftp_player.proofs.Common.{packet_action, datagram_action, EndState, record_of, size_of, terms_of}
-use Rattle.tftp_player.proofs.Common.{AreFilesOf, receiver_action, next_action, Turn, DatagramStep, Acts, AcksAgain}
-use Rattle.tftp_player.proofs.Common.{reply_bytes, reader_action, writer_action, accept_action, begin_action}
-use Rattle.tftp_player.proofs.Common.{begin_with_action, default_terms, answer_room}
+use Rattle.tftp_player.proofs.Common.{Respond, Send, Store, Response, Retransmit, Phase, Terms, packet_action}
+use Rattle.tftp_player.proofs.Common.{datagram_action, EndState, record_of, size_of, terms_of, AreFilesOf}
+use Rattle.tftp_player.proofs.Common.{receiver_action, next_action, Turn, DatagramStep, Acts, AcksAgain, reply_bytes}
+use Rattle.tftp_player.proofs.Common.{reader_action, writer_action, accept_action, begin_action, begin_with_action}
+use Rattle.tftp_player.proofs.Common.{default_terms, answer_room}
 use Rattle.std.proofs.Common.{◌==◌, max}
 use Rattle.std.specs.List.{AllByRecursion}
 use Rattle.tftp_wire.specs.declared.limits.TheConstants.{HEADER}
 use Rattle.tftp_negotiate.specs.Laws.{IsWithinAsked}
 use Rattle.tftp_negotiate.specs.declared.known.Kind.TheVariants as kinds
 use Rattle.tftp_negotiate.specs.declared.known.Known.TheVariants.{Timeout, Tsize}
-use Rattle.tftp_negotiate.specs.declared.refusal.Refusal.TheVariants as refusals
 use Rattle.tftp_negotiate.proofs.LawsLemmas.{takes_nothing_unasked}
 use Rattle.tftp_file.specs.Source.{SourceMeaning}
 use Rattle.tftp_file.specs.Sink.{SinkMeaning}
 use Rattle.tftp_ends.specs.declared.endpoint.Endpoint.{Endpoint}
-use Rattle.tftp_ends.specs.declared.error_reply.ErrorReply.TheVariants as replies
-use Rattle.tftp_ends.specs.declared.outcome.Outcome.TheVariants as outcomes
 use Rattle.tftp_ends.specs.declared.reply.TheConstants.{MAX_ERROR}
 use Rattle.tftp_ends.specs.Action.{garbled_response}
 use Rattle.tftp_ends.specs.Receiver.{dally_response}

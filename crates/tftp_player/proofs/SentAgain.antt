@@ -1,23 +1,21 @@
 -- An end sends its newest datagram again, or acknowledges again.
 -- For the laws on recovery, and for what ERRORs say (ErrorAnswers).
-use Rattle.tftp_player.proofs.Common.{common_steps, ◌≡◌, ℕ, ◌+◌, ◌-◌, ◌<◌, ◌≤◌, Bool, true, false, List, [], ◌∷◌, ◌++◌}
-use Rattle.tftp_player.proofs.Common.{length, Option, Some, None, refl, sym, ap, ◌∙◌, subst, arith, rules, ◌≢◌}
-use Rattle.tftp_player.proofs.Common.{if◌then◌else◌, slice_get, slice_set, append-nil, same_Some, MAX_BLOCK, RawOption}
-use Rattle.tftp_player.proofs.Common.{Packet, Oack, Spells, canonical, memory_source, Holding, StoreFault, Source, Sink}
-use Rattle.tftp_player.proofs.Common.{Action, Respond, Ignore, ResendReply, Retransmit, Outcome, Phase, Waiting}
+use Rattle.tftp_player.proofs.Common.{common_steps, ◌≡◌, ℕ, ◌+◌, ◌-◌, ◌<◌, ◌≤◌, true, List, [], ◌∷◌, ◌++◌, length}
+use Rattle.tftp_player.proofs.Common.{Option, Some, None, sym, ap, ◌∙◌, subst, arith, rules, ◌≢◌, slice_get, slice_set}
+use Rattle.tftp_player.proofs.Common.{same_Some, MAX_BLOCK, RawOption, Packet, Oack, Spells, canonical, memory_source}
+use Rattle.tftp_player.proofs.Common.{Holding, StoreFault, Action, Respond, ResendReply, Retransmit, Phase, Waiting}
 use Rattle.tftp_player.proofs.Common.{Sending, Receiving, Dallying, Closed, is_client, outcome_of, datagram_action}
 use Rattle.tftp_player.proofs.Common.{timeout_response, Turn, Acts, AcksAgain, Reply, response_turn, after_turn}
-use Rattle.tftp_player.proofs.Common.{ack_bytes, data_bytes, timeout_turn, Endpoint, OpenEnd, files_of, holding_of}
-use Rattle.tftp_player.proofs.Common.{decoded_is, WorldState, Open_end, datagram, in_the_way, file_at, Refines}
-use Rattle.tftp_player.proofs.Common.{world_sink, may_refuse_commit, WorldStep, Turns, Timeout, Report}
-use Rattle.tftp_player.proofs.Common.{slice_get-push_new, Datagram, Event}
-use Rattle.tftp_ends.specs.declared.outcome.Outcome.TheVariants as outcomes
+use Rattle.tftp_player.proofs.Common.{ack_bytes, data_bytes, timeout_turn, Endpoint, OpenEnd, files_of, decoded_is}
+use Rattle.tftp_player.proofs.Common.{WorldState, Open_end, datagram, in_the_way, file_at, Refines, world_sink}
+use Rattle.tftp_player.proofs.Common.{may_refuse_commit, WorldStep, Turns, Timeout, Report, slice_get-push_new}
+use Rattle.tftp_player.proofs.Common.{Datagram, Event}
 use Rattle.tftp_ends.specs.End.{number_of}
 use Rattle.tftp_ends.specs.Step.{IsAck}
-use Rattle.tftp_rules.specs.OpenEnds.{with_files, in_state}
-use Rattle.tftp_player.proofs.StraightSteps.{ports_of, Handles, same_with}
+use Rattle.tftp_rules.specs.OpenEnds.{in_state}
+use Rattle.tftp_player.proofs.StraightSteps.{ports_of, Handles}
 use Rattle.tftp_player.proofs.StraightRuns.{IsReady}
-use Rattle.tftp_player.proofs.WorldRuns.{set_same, step_keeps}
+use Rattle.tftp_player.proofs.WorldRuns.{step_keeps}
 
 -- ---- what bytes say
 -- the second byte
@@ -79,28 +77,6 @@ handles_again w v k x from bytes report n packet h spelled is still number =
     acked_bytes (number_of x.state.position.phase) h.turn.reply from x.state.position.last_sent (ap (λ (t : Turn).
     t.reply) a.0) g ∙ ap ack_bytes number in
     search rules
-
--- ---- an end ignores a datagram: nothing changes
--- nothing was sent, and no end has changed
-pub record Ignored (w v : WorldState) : Type 0 where
-  pub sent : v.sent ≡ w.sent
-  pub ends : v.ends ≡ w.ends
-
--- an end that ignores a datagram stays as it is and sends nothing
-pub handles_ignored : (w v : WorldState) (k : ℕ) (x : OpenEnd) (from : Endpoint) (bytes : List ℕ) (report : Report)
-    (packet : Packet) → Handles w k x from bytes report v → Spells packet bytes →
-    datagram_action x.state from bytes (Some packet) ≡ Respond Ignore →
-    outcome_of x.state.position.phase ≡ None → slice_get w.ends k ≡ Some (Open_end x) → Ignored w v
-handles_ignored w v k x from bytes report packet h spelled is still there =
-    let action_is : datagram_action x.state from bytes h.steps.decoded ≡ Respond Ignore =
-    ap (datagram_action x.state from bytes) (decoded_is bytes packet h.steps.decoded spelled h.steps.says) ∙ is in
-    let refuses_commit : Holding → StoreFault → Type 0 =
-    may_refuse_commit (is_client x.state.role.side) (in_the_way w.overwrite (file_at w.files x.path)) in
-    let a =
-    subst (λ (action : Action). Acts memory_source (world_sink refuses_commit) action from bytes x.state (files_of x)
-    h.turn h.held) action_is h.steps.acts in
-    let turn = response_turn Ignore from x.state in
-    search (rules, append-nil, same_with, set_same)
 
 -- ---- an end sends again
 -- the end has sent its newest datagram again

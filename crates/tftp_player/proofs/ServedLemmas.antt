@@ -1,12 +1,12 @@
 -- A datagram at an end of the server, in the words of the world's ends. For `ServerEnd::on_datagram` and
 -- `PlayedEnd::on_datagram`.
 use Rattle.tftp_player.proofs.Common.{◌≡◌, ◌≤◌, ℕ, Bool, true, false, List, length, sym, ap, ◌∙◌, subst, Result, rules}
-use Rattle.tftp_player.proofs.Common.{◌&&◌, not, is_some, if◌then◌else◌, memory_source, Holding, Files, Source, Sink}
-use Rattle.tftp_player.proofs.Common.{DEFAULT_BLOCK, EndState, is_client, record_of, terms_of, AreFilesOf, AreSame}
-use Rattle.tftp_player.proofs.Common.{Turn, after_turn, reply_bytes, files_in, drafting_sink, memory_meaning, StepIn}
-use Rattle.tftp_player.proofs.Common.{Stored, Drafted, Endpoint, OpenEnd, files_of, end_after, EndTakes, served_end}
-use Rattle.tftp_player.proofs.Common.{answer_room, PlayedServer, standing, file_at, has_committed, in_the_way, EndStep}
-use Rattle.tftp_player.proofs.Common.{FilesAfter, Effect, WorldFault, ServerEnd}
+use Rattle.tftp_player.proofs.Common.{◌&&◌, not, is_some, memory_source, Holding, Files, Source, Sink, DEFAULT_BLOCK}
+use Rattle.tftp_player.proofs.Common.{EndState, is_client, record_of, terms_of, AreFilesOf, AreSame, Turn, after_turn}
+use Rattle.tftp_player.proofs.Common.{reply_bytes, files_in, drafting_sink, memory_meaning, StepIn, Stored, Drafted}
+use Rattle.tftp_player.proofs.Common.{Endpoint, OpenEnd, files_of, end_after, EndTakes, served_end, answer_room}
+use Rattle.tftp_player.proofs.Common.{PlayedServer, standing, file_at, has_committed, in_the_way, EndStep, FilesAfter}
+use Rattle.tftp_player.proofs.Common.{Effect, WorldFault, ServerEnd}
 use Rattle.std.proofs.Common.{IfOk, OnErr}
 use Rattle.tftp_server.specs.Draft.{KeepsStore}
 use Rattle.tftp_store.specs.Memory.{with_armed}

@@ -1,8 +1,8 @@
 -- A turn of a transfer, in the words of the world's ends. For DraftLemmas, ServedLemmas and StepLemmas.
-use Rattle.tftp_player.proofs.Common.{◌≡◌, ℕ, Bool, false, List, refl, rules, if◌then◌else◌, memory_source, Holding}
-use Rattle.tftp_player.proofs.Common.{Files, Source, Sink, EndState, Turn, files_in, drafting_sink, memory_meaning}
-use Rattle.tftp_player.proofs.Common.{StepIn, Stored, Drafted, FileList, Endpoint, file_at, in_the_way, EndStep}
-use Rattle.tftp_player.proofs.Common.{may_refuse_commit, world_sink}
+use Rattle.tftp_player.proofs.Common.{◌≡◌, ℕ, Bool, false, List, refl, rules, memory_source, Holding, Files, Source}
+use Rattle.tftp_player.proofs.Common.{Sink, EndState, Turn, files_in, drafting_sink, memory_meaning, StepIn, Stored}
+use Rattle.tftp_player.proofs.Common.{Drafted, FileList, Endpoint, file_at, in_the_way, EndStep, may_refuse_commit}
+use Rattle.tftp_player.proofs.Common.{world_sink}
 use Rattle.tftp_ends.specs.OtherSinks.{SourcesModel, SinksModel, step_as}
 use Rattle.tftp_server.specs.Draft.{Drafting}
 

@@ -1,9 +1,9 @@
 -- `settle` makes as many deliveries as an accepted transfer needs, if its limit is not below. For
 -- `a_straight_run_completes` and RecoveriesSettled.
-use Rattle.tftp_player.proofs.Common.{◌≡◌, ◌≢◌, ◌⊎◌, ℕ, ◌+◌, ◌<◌, ◌≤◌, List, [], ◌∷◌, length, Option, Some, None, refl}
-use Rattle.tftp_player.proofs.Common.{sym, ap, ◌∙◌, rules, slice_get, true≢false, same_Some, Files, Source, Sink}
-use Rattle.tftp_player.proofs.Common.{Holding, Outcome, outcome_of, Turn, Service, Endpoint, slice_get-push_old}
-use Rattle.tftp_player.proofs.Common.{OpenEnd, end_after, service, TookAll, AllTaken, read_adds, write_adds, WorldState}
+use Rattle.tftp_player.proofs.Common.{◌≡◌, ◌≢◌, ℕ, ◌+◌, ◌≤◌, List, [], ◌∷◌, length, Option, Some, None, refl, sym, ap}
+use Rattle.tftp_player.proofs.Common.{◌∙◌, rules, slice_get, true≢false, same_Some, Files, Source, Sink, Holding}
+use Rattle.tftp_player.proofs.Common.{Outcome, outcome_of, Turn, Service, Endpoint, slice_get-push_old, OpenEnd}
+use Rattle.tftp_player.proofs.Common.{end_after, service, TookAll, AllTaken, read_adds, write_adds, WorldState}
 use Rattle.tftp_player.proofs.Common.{ClosedEnd, WorldEnd, Open_end, Closed_end, is_closed, closed_end, by_outcome}
 use Rattle.tftp_player.proofs.Common.{standing, ServiceStep, Delivery, At_request_port, At_open_end, At_closed_end}
 use Rattle.tftp_player.proofs.Common.{At_nobody, Settles, Get, Put, Report}
@@ -13,11 +13,6 @@ use Rattle.tftp_player.specs.Straight.{ReadsSettle, WritesSettle}
 use Rattle.tftp_player.specs.World.{closed_at}
 use Rattle.tftp_player.proofs.StraightOpenings.{reads_complete, writes_complete}
 use Rattle.tftp_player.proofs.StraightRuns.{stays_at, set_at}
-
--- none is left, or enough were made
-pub reached : (sent new made most count : ℕ) → count ≤ most → (made ≡ most) ⊎ (new ≤ sent + made) → made ≤ count →
-    (made < count → new ≡ sent + made + 1) → made ≡ count
-reached sent new made most count enough h6 few goes_on = search rules
 
 settled_ends : (old begun new : WorldState) (most made count : ℕ) →
     (s : Settled begun (length old.sent) most made new) → count ≤ most → Ends old new (length s.reports) count →

@@ -1,20 +1,11 @@
 -- What an end does at the datagram that it waits for. For eleven other files.
-use Rattle.tftp_player.proofs.Common.{◌≡◌, ℕ, ◌+◌, ◌<◌, ◌≤◌, Bool, true, false, List, [], ◌∷◌, length, Some, None, refl}
-use Rattle.tftp_player.proofs.Common.{ap, ◌∙◌, rules, ◌&&◌, nat_eq, nat_lt, pointwise, Mode, Packet, Respond, Send}
-use Rattle.tftp_player.proofs.Common.{Store, Complete, Phase, Terms, EndState, terms_of, is_wrong_peer, packet_action}
-use Rattle.tftp_player.proofs.Common.{datagram_action, next_action, Endpoint}
+use Rattle.tftp_player.proofs.Common.{◌≡◌, ℕ, ◌+◌, ◌<◌, ◌≤◌, true, false, List, length, Some, None, rules, nat_lt, Mode}
+use Rattle.tftp_player.proofs.Common.{Packet, Respond, Send, Store, Complete, Phase, Terms, EndState, terms_of}
+use Rattle.tftp_player.proofs.Common.{is_wrong_peer, packet_action, datagram_action, next_action, Endpoint}
 use Rattle.std.proofs.Common.{◌/◌}
-use Rattle.std.proofs.lemmas.Bool.{eq-eqb}
-use Rattle.tftp_ends.specs.declared.outcome.Outcome.TheVariants as outcomes
 use Rattle.tftp_ends.specs.Receiver.{data_action}
 use Rattle.tftp_ends.specs.Sender.{acked_action}
 use Rattle.tftp_ends.specs.Text.{is_readable}
-
--- ---- from whom it is
--- a list is found equal to itself
-pub same_list : (xs : List ℕ) → pointwise nat_eq xs xs ≡ true
-same_list [] = refl
-same_list (x ∷ xs) = ap (λ (b : Bool). b && pointwise nat_eq xs xs) (eq-eqb x x refl) ∙ same_list xs
 
 -- a datagram of the peer is not of a wrong peer
 pub peer_near : (terms : Terms) (to from : Endpoint) → terms.peer ≡ from → is_wrong_peer (Some terms) to from ≡ false

@@ -1,19 +1,19 @@
 -- The delivery of a datagram at the open end that it is for, if that sends, stores or is complete. For twelve other
 -- files.
-use Rattle.tftp_player.proofs.Common.{◌≡◌, ℕ, ◌+◌, ◌*◌, Bool, true, false, List, [], ◌∷◌, ◌++◌, length, drop, Option}
-use Rattle.tftp_player.proofs.Common.{Some, None, Result, Ok, Err, refl, sym, ap, ◌∙◌, subst, arith, inl, inr, rules}
-use Rattle.tftp_player.proofs.Common.{◌≢◌, if◌then◌else◌, nat_lt, slice_get, slice_set, true≢false, same_Some, Packet}
-use Rattle.tftp_player.proofs.Common.{Data, Spells, decoded_is, memory_source, block, wire_text, Holding, StoreFault}
-use Rattle.tftp_player.proofs.Common.{Files, Source, Sink, Action, Respond, Send, Store, Accept, Complete, ErrorReply}
-use Rattle.tftp_player.proofs.Common.{DiskFull, Outcome, Fresh, Phase, Sending, Receiving, Dallying, Terms, EndState}
-use Rattle.tftp_player.proofs.Common.{is_progress, is_sender, is_client, outcome_of, Decodes, datagram_action, Turn}
-use Rattle.tftp_player.proofs.Common.{Done, Acts, Appended, GoesOn, response_turn, sent_turn, refused_turn}
-use Rattle.tftp_player.proofs.Common.{committed_turn, commit_reply, holding, ack_bytes, data_bytes, after_turn}
-use Rattle.tftp_player.proofs.Common.{Endpoint, OpenEnd, holding_of, files_of, end_after, HeldBackFits, TookAll}
-use Rattle.tftp_player.proofs.Common.{WorldState, file_at, in_the_way, is_closed, datagram, replied, standing, WorldEnd}
-use Rattle.tftp_player.proofs.Common.{Open_end, Closed_end, end_address, HasPorts, Refines, IsComplete}
-use Rattle.tftp_player.proofs.Common.{may_refuse_commit, EndStep, OnDatagram, Delivery, At_request_port, At_open_end}
-use Rattle.tftp_player.proofs.Common.{At_closed_end, At_nobody, WorldStep, world_sink, Datagram, Deliver, Report}
+use Rattle.tftp_player.proofs.Common.{◌≡◌, ℕ, ◌+◌, ◌*◌, Bool, true, false, List, [], ◌∷◌, ◌++◌, length, drop, Some}
+use Rattle.tftp_player.proofs.Common.{Result, Ok, Err, refl, sym, ap, ◌∙◌, subst, arith, inl, inr, rules, ◌≢◌}
+use Rattle.tftp_player.proofs.Common.{if◌then◌else◌, nat_lt, slice_get, slice_set, true≢false, same_Some, Packet, Data}
+use Rattle.tftp_player.proofs.Common.{Spells, decoded_is, memory_source, block, wire_text, Holding, StoreFault, Files}
+use Rattle.tftp_player.proofs.Common.{Source, Sink, Action, Respond, Send, Store, Accept, Complete, ErrorReply}
+use Rattle.tftp_player.proofs.Common.{DiskFull, Fresh, Phase, Sending, Receiving, Dallying, Terms, EndState}
+use Rattle.tftp_player.proofs.Common.{is_progress, is_sender, is_client, outcome_of, datagram_action, Turn, Done, Acts}
+use Rattle.tftp_player.proofs.Common.{Appended, GoesOn, response_turn, sent_turn, refused_turn, committed_turn}
+use Rattle.tftp_player.proofs.Common.{commit_reply, holding, ack_bytes, data_bytes, after_turn, Endpoint, OpenEnd}
+use Rattle.tftp_player.proofs.Common.{holding_of, files_of, end_after, HeldBackFits, TookAll, WorldState, file_at}
+use Rattle.tftp_player.proofs.Common.{in_the_way, is_closed, datagram, replied, standing, WorldEnd, Open_end}
+use Rattle.tftp_player.proofs.Common.{Closed_end, end_address, HasPorts, Refines, IsComplete, may_refuse_commit}
+use Rattle.tftp_player.proofs.Common.{EndStep, OnDatagram, Delivery, At_request_port, At_open_end, At_closed_end}
+use Rattle.tftp_player.proofs.Common.{At_nobody, WorldStep, world_sink, Datagram, Deliver, Report}
 use Rattle.tftp_file.specs.declared.fault.StoreFault.TheVariants as faults
 use Rattle.tftp_ends.specs.declared.outcome.Outcome.TheVariants as outcomes
 use Rattle.tftp_ends.specs.Step.{Stores, StoresIn}

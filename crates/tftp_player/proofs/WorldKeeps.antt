@@ -1,16 +1,16 @@
 -- Clients that open, and the request port, keep a world. For five other files.
 use Rattle.tftp_player.proofs.Common.{◌≡◌, ℕ, ◌+◌, ◌*◌, ◌<◌, ◌≤◌, Bool, true, false, List, [], ◌∷◌, ◌++◌, length, map}
 use Rattle.tftp_player.proofs.Common.{Option, Some, None, Result, Ok, Err, sym, refl, ◌∙◌, subst, arith, rules, ◌≢◌}
-use Rattle.tftp_player.proofs.Common.{if◌then◌else◌, nat_lt, Contains, same_Some, slice_get_within, true≢false}
-use Rattle.tftp_player.proofs.Common.{ltb-true, MAX_BLOCK, Mode, Read, Write, Data, Ack, Error, Oack, Spells, canonical}
-use Rattle.tftp_player.proofs.Common.{RawOption, Asked, Kind, Known, Refusal, size, answer, IsBlockSize, Fits}
-use Rattle.tftp_player.proofs.Common.{wire_text, ErrorReply, error_bytes, measured, server_ip, client_ip, request_port}
-use Rattle.tftp_player.proofs.Common.{two_hosts, Endpoint, Elsewhere, Message, OpenEnd, Rule, message, said}
-use Rattle.tftp_player.proofs.Common.{answer_granted, spells_own, host_server, EndView, IsShownWithin, WorldState}
-use Rattle.tftp_player.proofs.Common.{WorldEnd, Open_end, file_at, datagram, said_in, view_of_end, reading_client}
-use Rattle.tftp_player.proofs.Common.{writing_client, MayGet, MayPut, sending_end, receiving_end, Ask, Service, Refused}
-use Rattle.tftp_player.proofs.Common.{Sends, by_file, IsRepeated, open_transfers, opened_of, served, service, Stays}
-use Rattle.tftp_player.proofs.Common.{ServiceStep, OpeningStep, RefinesAt, RefinesWithin, Report}
+use Rattle.tftp_player.proofs.Common.{nat_lt, Contains, same_Some, slice_get_within, true≢false, ltb-true, MAX_BLOCK}
+use Rattle.tftp_player.proofs.Common.{Mode, Read, Write, Data, Ack, Error, Oack, Spells, canonical, RawOption, Asked}
+use Rattle.tftp_player.proofs.Common.{Kind, Known, Refusal, size, answer, IsBlockSize, Fits, wire_text, ErrorReply}
+use Rattle.tftp_player.proofs.Common.{error_bytes, measured, server_ip, client_ip, request_port, two_hosts, Endpoint}
+use Rattle.tftp_player.proofs.Common.{Elsewhere, Message, OpenEnd, Rule, message, said, answer_granted, spells_own}
+use Rattle.tftp_player.proofs.Common.{host_server, EndView, IsShownWithin, WorldState, WorldEnd, Open_end, file_at}
+use Rattle.tftp_player.proofs.Common.{datagram, said_in, view_of_end, reading_client, writing_client, MayGet, MayPut}
+use Rattle.tftp_player.proofs.Common.{sending_end, receiving_end, Ask, Service, Refused, Sends, by_file, IsRepeated}
+use Rattle.tftp_player.proofs.Common.{open_transfers, opened_of, served, service, Stays, ServiceStep, OpeningStep}
+use Rattle.tftp_player.proofs.Common.{RefinesAt, RefinesWithin, Report}
 use Rattle.std.proofs.Common.{nat_le}
 use Rattle.std.specs.List.{AllByRecursion}
 use Rattle.tftp_wire.specs.declared.packet.Packet.{Packet as WirePacket}

@@ -24,6 +24,5 @@ pub mod Completing
 pub mod OneAtMost
 pub mod Straight
 pub mod Recovering
-pub mod Lossy
 pub mod Closing
 pub mod Draw

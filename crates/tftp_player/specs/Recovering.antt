@@ -1,6 +1,6 @@
 -- A transfer completes once the network behaves, whatever it has done so far.
 use Rattle.std.specs.Prelude.{ℕ, ◌≡◌, ◌+◌, ◌*◌, ◌-◌, ◌<◌, ◌≤◌, ◌⊎◌, true, false, ⊤, List}
-use Rattle.std.specs.Prelude.{length, slice_get, Some}
+use Rattle.std.specs.Prelude.{length, slice_get, Some, Bool}
 use Rattle.tftp_wire.specs.declared.mode.Mode.{Mode}
 use Rattle.tftp_negotiate.specs.Agreed.{size}
 use Rattle.tftp_negotiate.specs.declared.asked.Asked.{Asked}
@@ -18,17 +18,20 @@ use Rattle.tftp_ends.specs.declared.phase.Phase.TheVariants.{Waiting, Sending, R
 use Rattle.tftp_ends.specs.declared.phase.Terms.{Terms}
 use Rattle.tftp_ends.specs.Action.{HandledBy}
 use Rattle.tftp_ends.specs.End.{is_client}
+use Rattle.tftp_ends.specs.Step.{ack_bytes}
 use Rattle.tftp_rules.specs.OpenEnds.{OpenEnd, peer_of}
 use Rattle.tftp_player.specs.Settling.{Settled}
 use Rattle.tftp_player.specs.Straight.{AllTaken, HaveTaken, IsAccepted, TakesAnswer}
 use Rattle.tftp_player.specs.Straight.{read_adds, write_adds}
 use Rattle.tftp_player.specs.World.{WorldState, StoredFile, WorldEnd, Open_end}
-use Rattle.tftp_player.specs.World.{new_world, file_at}
+use Rattle.tftp_player.specs.World.{new_world, file_at, datagram, end_address, end_record, is_closed}
+use Rattle.tftp_player.specs.WorldKept.{Refines}
 use Rattle.tftp_player.specs.WorldRuns.{PlaysAll}
-use Rattle.tftp_player.specs.WorldSafety.{IsComplete}
+use Rattle.tftp_player.specs.WorldSafety.{IsIn, IsReceiver, IsComplete, HasPeer}
 use Rattle.tftp_player.specs.WorldSteps.{WorldStep, Settles}
+use Rattle.tftp_player.specs.declared.datagram.Datagram.{Datagram}
 use Rattle.tftp_player.specs.declared.event.Event.{Event}
-use Rattle.tftp_player.specs.declared.event.Event.TheVariants.{Timeout}
+use Rattle.tftp_player.specs.declared.event.Event.TheVariants.{Timeout, Deliver}
 use Rattle.tftp_player.specs.declared.report.Report.{Report}
 
 -- some list of events leads to this world
@@ -273,3 +276,25 @@ SomeWriteRequestRecovers =
     × TakesAnswer asked kinds.Write mode limit agreed
     × Fits (wire_text mode y.file) (size agreed) × AllTaken again.run.reports
     × (length again.run.reports ≡ write_adds mode y.file agreed)
+
+-- an open sender is complete once it hears the last ACK of its peer, which is complete
+abbrev pub SendersHearTheEnd : Type 0
+SendersHearTheEnd =
+    (strangers : Bool) (old new : WorldState) (i : ℕ) (d : Datagram) (report : Report) (k : ℕ)
+    (x y : WorldEnd) → Refines strangers old → IsIn old x → IsReceiver x → IsComplete x →
+    slice_get old.ends k ≡ Some y → is_closed y ≡ false → HasPeer y (end_address x) →
+    HasPeer x (end_address y) → slice_get old.sent i ≡ Some d → d.from ≡ end_address x →
+    d.to ≡ end_address y → d.bytes ≡ ack_bytes (end_record x).number →
+    WorldStep old (Deliver i) report new →
+    (z : WorldEnd) × (slice_get new.ends k ≡ Some z) × IsComplete z
+
+-- some sender hears it
+abbrev pub SomeSenderHearsTheEnd : Type 0
+SomeSenderHearsTheEnd =
+    (old : WorldState) × (new : WorldState) × (i : ℕ) × (report : Report) × (k : ℕ) × (x : WorldEnd)
+    × (y : WorldEnd) × Refines false old × IsIn old x × IsReceiver x × IsComplete x
+    × (slice_get old.ends k ≡ Some y) × (is_closed y ≡ false) × HasPeer y (end_address x)
+    × HasPeer x (end_address y)
+    × (slice_get old.sent i
+    ≡ Some (datagram (end_address x) (end_address y) (ack_bytes (end_record x).number)))
+    × WorldStep old (Deliver i) report new

@@ -11,9 +11,6 @@ ghost use Rattle.tftp_player.specs.Closing.{EstablishedEndsCloseSo, SomeEndIsRef
 ghost use Rattle.tftp_player.specs.Completing.{Transfers, nothing_asked, blocks_of_8};
 ghost use Rattle.tftp_player.specs.Completing.{two_blocks, three_blocks};
 ghost use Rattle.tftp_player.specs.declared.event.Event.TheVariants.{Get, Put};
-ghost use Rattle.tftp_player.specs.Lossy.{ReadsDespiteLoss, SendersHearTheEnd};
-ghost use Rattle.tftp_player.specs.Lossy.{SomeReadIsLossy, SomeSenderHearsTheEnd};
-ghost use Rattle.tftp_player.specs.Lossy.{SomeWriteIsLossy, WritesDespiteLoss};
 ghost use Rattle.tftp_player.specs.OneAtMost.{EventsAddOneAtMost};
 ghost use Rattle.tftp_player.specs.Recovering.{TransfersRecover, ReadsRecover, WritesRecover};
 ghost use Rattle.tftp_player.specs.Recovering.{ReadRequestsRecover, WriteRequestsRecover};
@@ -23,6 +20,7 @@ ghost use Rattle.tftp_player.specs.Recovering.{ReadRequestsSettle, WriteRequests
 ghost use Rattle.tftp_player.specs.Recovering.{SomeReadRecovers, SomeWriteRecovers};
 ghost use Rattle.tftp_player.specs.Recovering.{SomeReadRequestRecovers};
 ghost use Rattle.tftp_player.specs.Recovering.{SomeWriteRequestRecovers};
+ghost use Rattle.tftp_player.specs.Recovering.{SendersHearTheEnd, SomeSenderHearsTheEnd};
 ghost use Rattle.tftp_player.specs.Repeating.{RepeatsOpenNothing, OnlyNewRequestsOpen};
 ghost use Rattle.tftp_player.specs.Repeating.{RequestsLast};
 ghost use Rattle.tftp_player.specs.Straight.{ReadsComplete, WritesComplete, ReadsSettle};
@@ -146,27 +144,6 @@ pub fn a_recovery_settles()
     // and where the request was lost
     ensures read_requests { ReadRequestsSettle }
     ensures write_requests { WriteRequestsSettle }
-{}
-
-/// A get completes if the loss is bounded: whatever else the network loses, repeats or reorders,
-/// the newest datagram of each end is heard before more than `limit` timeouts of the two ends have
-/// passed since it was new or heard last, and each end has at least `2 * limit` retries. If both
-/// ends accept the request, and no event but deliveries and timeouts of the two happens, the client
-/// is complete after at most `limit` timeouts for each datagram of a run without loss (RFC 1350,
-/// section 2); until then neither end gives up.
-pub fn a_lossy_read_completes()
-    ensures reads { ReadsDespiteLoss }
-    // there is one of two blocks in which each datagram is lost once
-    ensures some { SomeReadIsLossy Octet blocks_of_8 two_blocks (Blksize 8 ∷ []) 1 }
-{}
-
-/// So does a put at the server's end, whose store takes all blocks and the commit. Whether the
-/// client completes depends on the last ACK (RFC 1350, section 6): no bound on the loss before the
-/// server's end is complete says that it is heard.
-pub fn a_lossy_write_completes()
-    ensures writes { WritesDespiteLoss }
-    // there is one of two blocks in which each datagram is lost once
-    ensures some { SomeWriteIsLossy Octet blocks_of_8 two_blocks (Blksize 8 ∷ []) 1 }
 {}
 
 /// A sender that is open is complete once it hears the last ACK of its peer, which is complete (RFC

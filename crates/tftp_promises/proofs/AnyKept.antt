@@ -1,47 +1,31 @@
 -- In the end state of the traces what a receiver was handed is what its peer's file gave: the invariant by the run
 -- says it of a text that is padded, and no padding is part of what is claimed.
-use Rattle.tftp_promises.proofs.Common.{◌≡◌, ℕ, Bool, true, false, List, [], ◌++◌, length, Some, None, refl, sym, ap}
-use Rattle.tftp_promises.proofs.Common.{◌∙◌, subst, inl, inr, ◌≢◌, if◌then◌else◌, slice_get, option_map, true≢false}
-use Rattle.tftp_promises.proofs.Common.{same_Some, slice_get-map, Mode, IsPrefixOf, wire_text, SinkMeaning}
-use Rattle.tftp_promises.proofs.Common.{SourceMeaning, Files, Source, Sink, Phase, Waiting, Sending, Receiving}
-use Rattle.tftp_promises.proofs.Common.{Dallying, Closed, Role, EndState, is_client, is_complete, is_sender, record_of}
-use Rattle.tftp_promises.proofs.Common.{StoreMeaning, TransferState, Elsewhere, Endpoint, OpenEnd, open_view, EndView}
-use Rattle.tftp_promises.proofs.Common.{IsAmong, moved_in, IsEnd, IsOurs, KeepAnyFiles, ProgramEnd, ServesClient}
-use Rattle.tftp_promises.proofs.Common.{client_end, transfer_end, HadStore, StoreBegan, GaveSince, StoreOpened, Moved}
-use Rattle.tftp_promises.proofs.Common.{ArePortsFresh, moved_at, opened_at, Programs, IsStranger, ClientOf, endpoint}
-use Rattle.tftp_promises.proofs.Common.{HasOpened, joined, Has_asked, all_of}
-use Rattle.std.specs.Prelude.{not}
-use Rattle.tftp_rules.specs.OpenEnds.{goes_on, received_text}
+use Rattle.tftp_promises.proofs.Common.{List, ℕ, ◌≡◌, rules, sym, Endpoint, refl, [], ◌∙◌, ap, SourceMeaning, Some}
+use Rattle.tftp_promises.proofs.Common.{subst, inl, StoreMeaning, inr, SinkMeaning, false, true, None, Programs}
+use Rattle.tftp_promises.proofs.Common.{EndState, Files, ◌≢◌, length, slice_get, TransferState, joined, ClientOf}
+use Rattle.tftp_promises.proofs.Common.{OpenEnd, is_sender, endpoint, same_Some, IsStranger, open_view, Mode, moved_in}
+use Rattle.tftp_promises.proofs.Common.{EndView, not, IsPrefixOf, is_client, all_of, moved_at, is_complete, Role}
+use Rattle.tftp_promises.proofs.Common.{IsAmong, opened_at, Elsewhere, client_end, HasOpened, ArePortsFresh, Phase}
+use Rattle.tftp_promises.proofs.Common.{ServesClient, ProgramEnd, IsEnd, wire_text, transfer_end, KeepAnyFiles, IsOurs}
+use Rattle.tftp_promises.proofs.Common.{has_of, ViewsEnd, record_of}
+use Rattle.tftp_rules.specs.OpenEnds.{received_text}
 use Rattle.tftp_rules.specs.Safety.{IsCompleteAt, IsSenderAt}
 use Rattle.tftp_rules.specs.ViewSafety.{IsSafeViews, safety_view}
 use Rattle.tftp_rules.proofs.ViewSafe.{shown_safe}
-use Rattle.tftp_promises.specs.AnyFiles.{WasGivenBy, HasGot, HasPut}
-use Rattle.tftp_promises.specs.AnyFiles.{WasGiven, WasOpened, WasTaken, has_of, peer_of}
-use Rattle.tftp_promises.specs.AnyFiles.{safety_of}
-use Rattle.tftp_promises.specs.Arrived.{ViewsEnd}
-use Rattle.tftp_promises.specs.Drafts.{TookSince}
-use Rattle.tftp_promises.proofs.ClientRoles.{run_role}
+use Rattle.tftp_promises.specs.AnyFiles.{HasGot, HasPut, peer_of, safety_of}
+use Rattle.tftp_promises.proofs.ClientTraces.{run_role}
 use Rattle.tftp_promises.proofs.ClientsServed.{one_there, served_by}
-use Rattle.tftp_promises.proofs.Invariant.{ClientKept, GaveSo, HasFile, HasStored, IsGiven, IsKept, IsOpened}
-use Rattle.tftp_promises.proofs.Invariant.{IsTaken, IsViewed, SendsText, TookSo}
-use Rattle.tftp_promises.proofs.Invariant.{length_of}
-use Rattle.tftp_promises.proofs.KeptShown.{receiver_text, text_if, views_end}
-use Rattle.tftp_promises.proofs.KeptViews.{view_there}
+use Rattle.tftp_promises.proofs.Invariant.{GaveSo, HasFile, HasStored, IsKept, IsOpened, IsViewed, SendsText, TookSo}
+use Rattle.tftp_promises.proofs.Invariant.{length_of, client_kept}
+use Rattle.tftp_promises.proofs.KeptViews.{views_end, view_there}
 use Rattle.tftp_promises.proofs.Places.{strangers_elsewhere}
 use Rattle.tftp_promises.proofs.Texts.{begin_each_other, begins_unpadded, pad_length, pad_to}
+use Rattle.tftp_promises.proofs.MovedInAll.{was_opened, was_given, was_taken, has_given}
 
 -- what a complete receiver has is what its sink was handed
 whole_text : (e : EndState) (stored : List ℕ) (phase : Phase) → e.position.phase ≡ phase →
     is_complete phase ≡ true → received_text e stored ≡ wire_text e.role.mode stored
-whole_text e stored (Waiting asked limit) is complete = absurd (true≢false (sym complete))
-whole_text e stored (Sending terms number) is complete = absurd (true≢false (sym complete))
-whole_text e stored (Receiving terms number) is complete = absurd (true≢false (sym complete))
-whole_text e stored (Dallying terms number dally) is complete =
-    ap (λ (p : Phase). if goes_on p then wire_text e.role.mode stored ++ e.position.held_back else
-    wire_text e.role.mode stored) is
-whole_text e stored (Closed terms number done outcome) is complete =
-    ap (λ (p : Phase). if goes_on p then wire_text e.role.mode stored ++ e.position.held_back else
-    wire_text e.role.mode stored) is
+whole_text e stored phase is complete = search rules
 
 module _ {S F D G K : Type 0} {stores : StoreMeaning S D} {sources : SourceMeaning F} {inputs : SourceMeaning G}
     {outputs : SinkMeaning K} (programs : Programs stores sources inputs outputs) (fresh : ArePortsFresh programs)
@@ -66,34 +50,14 @@ module _ {S F D G K : Type 0} {stores : StoreMeaning S D} {sources : SourceMeani
     gave : is_sender end.state.role.side ≡ true → GaveSo end x.moved
     took : is_sender end.state.role.side ≡ false → TookSo end x.moved
 
-  client_kept : (pad k : ℕ) (client : Client) → slice_get programs.clients k ≡ Some client →
-      ClientKept programs pad (views pad) (kept pad).messages client client.last client.files
-      (moved_in client.runs)
-  client_kept pad k client found =
-      (kept pad).clients k client (Has_asked client.last client.files client.noted (moved_in client.runs)) found
-      (slice_get-map (λ (c : Client). Has_asked c.last c.files c.noted (moved_in c.runs)) programs.clients k
-      ∙ ap (option_map (λ (c : Client). Has_asked c.last c.files c.noted (moved_in c.runs))) found)
-
   module _ (pad : ℕ) (client : Client) (x : OpenEnd) where
     client_stands : (files : Files G K) → HasFile programs pad client x files (moved_in client.runs) →
         (is_sender x.state.role.side ≡ true → x.text ≡ pad_to pad x.state.role.length (moved_in client.runs).bytes)
         × (is_sender x.state.role.side ≡ true → GaveSo x (moved_in client.runs))
         × (is_sender x.state.role.side ≡ false → TookSo x (moved_in client.runs))
-    client_stands (Source source) has = (
-      λ s. has.text ∙ ap (λ (r : Role). pad_to pad r.length (moved_in client.runs).bytes) (sym has.role),
-      λ s. has.gave,
-      λ r. absurd (true≢false (sym has.sender ∙ r)),
-    )
-    client_stands (Sink sink) has = (
-      λ s. absurd (true≢false (sym s ∙ has.receiver)),
-      λ s. absurd (true≢false (sym s ∙ has.receiver)),
-      λ r. has.took,
-    )
+    client_stands files has = search rules
 
   module _ (pad : ℕ) (a : Endpoint) (x : OpenEnd) (at : x.address ≡ a) where
-    moved_there : moved_at programs x.address programs.server.run ≡ moved_at programs a programs.server.run
-    moved_there = ap (λ (e : Endpoint). moved_at programs e programs.server.run) at
-
     measured : IsOpened programs programs.server.run x →
         length_of (opened_at programs x.address programs.server.run) ≡ x.state.role.length
     measured h = ap length_of h.opened ∙ ap (λ (r : Role). r.length) h.role
@@ -103,23 +67,13 @@ module _ {S F D G K : Type 0} {stores : StoreMeaning S D} {sources : SourceMeani
         x.text ≡ pad_to pad x.state.role.length (moved_at programs a programs.server.run).bytes)
         × (is_sender x.state.role.side ≡ true → GaveSo x (moved_at programs a programs.server.run))
         × (is_sender x.state.role.side ≡ false → TookSo x (moved_at programs a programs.server.run))
-    transfer_stands (Source source) has = (
-      λ s. has.text ∙ (ap (λ (n : ℕ). pad_to pad n (moved_at programs x.address programs.server.run).bytes)
-          (measured has.opened) ∙ ap (λ (m : Moved). pad_to pad x.state.role.length m.bytes) moved_there),
-      λ s. subst (λ (m : Moved). GaveSo x m) moved_there has.gave,
-      λ r. absurd (true≢false (sym has.sender ∙ r)),
-    )
-    transfer_stands (Sink draft) has = (
-      λ s. absurd (true≢false (sym s ∙ has.receiver)),
-      λ s. absurd (true≢false (sym s ∙ has.receiver)),
-      λ r. subst (λ (m : Moved). TookSo x m) moved_there has.took,
-    )
+    transfer_stands files has = search rules
 
   -- each end stands among the views
   of_client : (pad k : ℕ) (client : Client) → slice_get programs.clients k ≡ Some client →
       StandsFor pad (client_end programs client)
   of_client pad k client found =
-      let h = client_kept pad k client found in
+      let h = client_kept (kept pad) k client found in
       let got = client_stands pad client h.end client.files h.has in
       record {
         end = h.end;
@@ -186,16 +140,10 @@ module _ {S F D G K : Type 0} {stores : StoreMeaning S D} {sources : SourceMeani
 
     -- the text of a sender, and that of a receiver
     sent_text : is_sender x.state.role.side ≡ true → view.text ≡ pad_to pad x.state.role.length x.moved.bytes
-    sent_text sends =
-        let sender = sender_at sends in
-        text_if (is_sender s.end.state.role.side) s.end.text (received_text s.end.state s.end.stored) sender
-        ∙ (s.text sender ∙ ap (λ (e : EndState). pad_to pad e.role.length x.moved.bytes) s.state)
+    sent_text sends = search rules
 
     has_text : is_sender x.state.role.side ≡ false → view.text ≡ has_of x
-    has_text receives =
-        let receiver = receiver_at receives in
-        receiver_text s.end receiver ∙ (ap (received_text s.end.state) (s.took receiver).stored
-        ∙ ap (λ (e : EndState). received_text e x.moved.bytes) s.state)
+    has_text receives = search rules
 
   -- ---- the promises
   not_elsewhere : (p : Endpoint) → IsOurs programs p → (joined programs).host_of p ≢ Elsewhere
@@ -260,9 +208,7 @@ module _ {S F D G K : Type 0} {stores : StoreMeaning S D} {sources : SourceMeani
   same_there :
       (pad other : ℕ) (p : Endpoint) (m n : Mode) (v w : EndView) (there : SenderThere pad p m v) →
       SendsThere other p n w → w ≡ open_view (stands other there.y there.sender.is_end).end
-  same_there pad other p m n v w there at =
-      own_view other there.y (stands other there.y there.sender.is_end) w at.is_end
-      (at.address ∙ sym there.sender.address)
+  same_there pad other p m n v w there at = search rules
 
   module _ (x : ProgramEnd) (is_end : IsEnd programs x) (receives : is_sender x.state.role.side ≡ false) where
     abbrev self : (pad : ℕ) → StandsFor pad x
@@ -392,135 +338,6 @@ module _ {S F D G K : Type 0} {stores : StoreMeaning S D} {sources : SourceMeani
       let same = (safe 0).same_size (view 0 x s) (view 0 y t) (among 0 x s) (among 0 y t) peer peer_y in
       sym told.size ∙ (same ∙ told_y.size)
 
-  -- what the server opened at a place
-  opened_so : (transfer : TransferState F D) (a : Endpoint) (x : OpenEnd) → x.address ≡ a → x.state ≡ transfer.end →
-      x.path ≡ transfer.path → IsOpened programs programs.server.run x → WasOpened programs transfer a
-  opened_so transfer a x at state path h = record {
-    opening = h.opening;
-    opened = ap (λ (e : Endpoint). opened_at programs e programs.server.run) (sym at) ∙ h.opened;
-    path = h.path ∙ path;
-    role = h.role ∙ ap (λ (e : EndState). e.role) state;
-  }
-
-  opened_of : (files : Files F D) (x : OpenEnd) → HasStored 0 (all_of programs) x files →
-      IsOpened programs programs.server.run x
-  opened_of (Source source) x has = has.opened
-  opened_of (Sink draft) x has = has.opened
-
-  was_opened : (port : ℕ) (transfer : TransferState F D) (a : Endpoint) → HasOpened programs port transfer a →
-      WasOpened programs transfer a
-  was_opened port transfer a opened =
-      let h = (kept 0).transfers port transfer a opened in
-      opened_so transfer a h.end h.address h.state h.path (opened_of transfer.files h.end h.has)
-
-  -- what it has given since the store opened it
-  given_so : (transfer : TransferState F D) (a : Endpoint) (x : OpenEnd) → x.address ≡ a → x.state ≡ transfer.end →
-      x.path ≡ transfer.path → x.request ≡ transfer.request → (source : F) → transfer.files ≡ Source source →
-      IsGiven programs programs.server.run x source → WasGiven programs transfer a
-  given_so transfer a x at state path request source is h = record {
-    opening = h.opening;
-    first =
-        subst (λ (m : Mode). StoreOpened programs.server.run transfer.path transfer.request m h.opening)
-        (ap (λ (e : EndState). e.role.mode) state)
-        (subst (λ (r : List ℕ). StoreOpened programs.server.run transfer.path r x.state.role.mode h.opening) request
-        (subst (λ (p : List ℕ). StoreOpened programs.server.run p x.request x.state.role.mode h.opening) path h.first));
-    long = ap (λ (e : EndState). e.role.length) (sym state) ∙ h.long;
-    source = source;
-    is_source = is;
-    since =
-        subst (λ (b : Endpoint). GaveSince sources h.opening.source transfer.end
-        (moved_at programs b programs.server.run).bytes source) at
-        (subst (λ (e : EndState). GaveSince sources h.opening.source e
-        (moved_at programs x.address programs.server.run).bytes source) state h.since);
-  }
-
-  given_of : (transfer : TransferState F D) (a : Endpoint) (x : OpenEnd) → x.address ≡ a → x.state ≡ transfer.end →
-      x.path ≡ transfer.path → x.request ≡ transfer.request → is_sender transfer.end.role.side ≡ true →
-      (files : Files F D) → transfer.files ≡ files → HasStored 0 (all_of programs) x files →
-      WasGiven programs transfer a
-  given_of transfer a x at state path request sends (Source source) is has =
-      given_so transfer a x at state path request source is has.given
-  given_of transfer a x at state path request sends (Sink draft) is has =
-      absurd (true≢false (sym sends ∙ (ap (λ (e : EndState). is_sender e.role.side) (sym state) ∙ has.receiver)))
-
-  was_given : (port : ℕ) (transfer : TransferState F D) (a : Endpoint) → HasOpened programs port transfer a →
-      is_sender transfer.end.role.side ≡ true → WasGiven programs transfer a
-  was_given port transfer a opened sends =
-      let h = (kept 0).transfers port transfer a opened in
-      given_of transfer a h.end h.address h.state h.path h.request sends transfer.files refl h.has
-
-  -- what its draft has taken since the store began it
-  taken_so : (transfer : TransferState F D) (a : Endpoint) (x : OpenEnd) → x.address ≡ a → x.state ≡ transfer.end →
-      x.path ≡ transfer.path → x.request ≡ transfer.request → x.committed ≡ is_complete x.state.position.phase →
-      (draft : D) → transfer.files ≡ Sink draft → IsTaken programs programs.server.run x draft → WasTaken programs transfer a
-  taken_so transfer a x at state path request complete draft is h = record {
-    began_with = h.first;
-    began =
-        subst (λ (m : Mode). StoreBegan programs.server.run transfer.path transfer.request m replaces h.first)
-        (ap (λ (e : EndState). e.role.mode) state)
-        (subst (λ (r : List ℕ). StoreBegan programs.server.run transfer.path r x.state.role.mode replaces h.first)
-        request
-        (subst (λ (p : List ℕ). StoreBegan programs.server.run p x.request x.state.role.mode replaces h.first) path
-        h.began));
-    draft = draft;
-    is_draft = is;
-    since =
-        subst (λ (b : Endpoint). TookSince stores (HadStore programs.server.run) transfer.path replaces h.first
-        transfer.end (moved_at programs b programs.server.run).bytes draft) at
-        (subst (λ (e : EndState). TookSince stores (HadStore programs.server.run) transfer.path replaces h.first e
-        (moved_at programs x.address programs.server.run).bytes draft) state
-        (subst (λ (p : List ℕ). TookSince stores (HadStore programs.server.run) p replaces h.first x.state
-        (moved_at programs x.address programs.server.run).bytes draft) path
-        (record {
-          going = λ o n. h.since.going o (complete ∙ n);
-          done = λ c. h.since.done (complete ∙ c);
-        })));
-  } where
-    replaces : Bool
-    replaces = programs.server.start.server.config.overwrite
-
-  taken_of : (transfer : TransferState F D) (a : Endpoint) (x : OpenEnd) → x.address ≡ a → x.state ≡ transfer.end →
-      x.path ≡ transfer.path → x.request ≡ transfer.request →
-      (is_sender x.state.role.side ≡ false → x.committed ≡ is_complete x.state.position.phase) →
-      is_sender transfer.end.role.side ≡ false → (files : Files F D) → transfer.files ≡ files →
-      HasStored 0 (all_of programs) x files → WasTaken programs transfer a
-  taken_of transfer a x at state path request complete receives (Sink draft) is has =
-      taken_so transfer a x at state path request (complete has.receiver) draft is has.taken
-  taken_of transfer a x at state path request complete receives (Source source) is has =
-      absurd (true≢false (sym has.sender ∙ (ap (λ (e : EndState). is_sender e.role.side) state ∙ receives)))
-
-  was_taken : (port : ℕ) (transfer : TransferState F D) (a : Endpoint) → HasOpened programs port transfer a →
-      is_sender transfer.end.role.side ≡ false → WasTaken programs transfer a
-  was_taken port transfer a opened receives =
-      let h = (kept 0).transfers port transfer a opened in
-      taken_of transfer a h.end h.address h.state h.path h.request h.viewed.kept.committed receives transfer.files refl
-      h.has
-
-  -- what the source of a client has given
-  module _ (k : ℕ) (client : Client) (found : slice_get programs.clients k ≡ Some client)
-      (sends : is_sender client.first.role.side ≡ true) where
-    abbrev its_kept : ClientKept programs 0 (views 0) (kept 0).messages client client.last client.files
-        (moved_in client.runs)
-    its_kept = client_kept 0 k client found
-
-    given_by : (files : Files G K) → client.files ≡ files →
-        HasFile programs 0 client its_kept.end files (moved_in client.runs) → WasGivenBy programs client
-    given_by (Source source) is has = record {
-      first = has.given.first;
-      is_first = has.given.is_first;
-      source = source;
-      is_source = is;
-      since =
-          subst (λ (e : EndState). GaveSince inputs has.given.first e (moved_in client.runs).bytes source)
-          its_kept.state has.given.since;
-    }
-    given_by (Sink sink) is has =
-        absurd (true≢false (sym sends ∙ (ap (λ (r : Role). is_sender r.side) (sym (run_role client.runs))
-        ∙ (ap (λ (e : EndState). is_sender e.role.side) (sym its_kept.state) ∙ has.receiver))))
-
-    has_given : WasGivenBy programs client
-    has_given = given_by client.files refl its_kept.has
-
   -- what a complete client was handed
   module _ (k : ℕ) (client : Client) (found : slice_get programs.clients k ≡ Some client)
       (receiver : is_sender client.first.role.side ≡ false)
@@ -539,7 +356,7 @@ module _ {S F D G K : Type 0} {stores : StoreMeaning S D} {sources : SourceMeani
 
     its_side : is_client client.last.end.role.side ≡ true
     its_side =
-        let h = client_kept 0 k client found in
+        let h = client_kept (kept 0) k client found in
         ap (λ (e : EndState). is_client e.role.side) (sym h.state) ∙ h.side
 
     -- its peer, and the transfer that serves it
@@ -553,7 +370,7 @@ module _ {S F D G K : Type 0} {stores : StoreMeaning S D} {sources : SourceMeani
         one_there programs (kept 0) fresh y z at.is_end (inr (s.port, s.transfer, p, s.opened, refl)) at.address in
         let sends : is_sender s.transfer.end.role.side ≡ true =
         ap (λ (w : ProgramEnd). is_sender w.state.role.side) (sym same) ∙ at.sends in
-        let given = was_given s.port s.transfer p s.opened sends in
+        let given = was_given programs (kept 0) s.port s.transfer p s.opened sends in
         let measured : length (moved_at programs p programs.server.run).bytes ≡ s.transfer.end.role.length =
         ap (λ (w : ProgramEnd). length w.moved.bytes) (sym same)
         ∙ (long ∙ ap (λ (w : ProgramEnd). w.state.role.length) same) in
@@ -618,7 +435,7 @@ module _ {S F D G K : Type 0} {stores : StoreMeaning S D} {sources : SourceMeani
           let same : v ≡ the_end = one_there programs (kept 0) fresh v the_end at.is_end among_ends (at.address ∙ q_is) in
           let mode : its_server.transfer.end.role.mode ≡ client.first.role.mode =
           sym at.mode ∙ (ap (λ (w : ProgramEnd). w.state.role.mode) same ∙ ap (λ (r : Role). r.mode) the_role) in
-          let given = has_given k client found sender in
+          let given = has_given programs (kept 0) k client found sender in
           let measured : length (moved_in client.runs).bytes ≡ client.last.end.role.length =
           ap (λ (w : ProgramEnd). length w.moved.bytes) (sym same)
           ∙ (long ∙ ap (λ (w : ProgramEnd). w.state.role.length) same) in
@@ -626,7 +443,7 @@ module _ {S F D G K : Type 0} {stores : StoreMeaning S D} {sources : SourceMeani
             peer = p;
             serves = its_server;
             given = given;
-            taken = was_taken its_server.port its_server.transfer p its_server.opened other_receives;
+            taken = was_taken programs (kept 0) its_server.port its_server.transfer p its_server.opened other_receives;
             same_mode = mode;
             stored =
                 ap (λ (n : Mode). wire_text n (moved_at programs p programs.server.run).bytes) (sym mode)
@@ -653,9 +470,8 @@ module _ {S F D G K : Type 0} {stores : StoreMeaning S D} {sources : SourceMeani
 
     has_put : HasPut programs client
     has_put =
-        let side =
-        let h = client_kept 0 k client found in
-        ap (λ (e : EndState). is_client e.role.side) (sym h.state) ∙ h.side in
+        let h = client_kept (kept 0) k client found in
+        let side = ap (λ (e : EndState). is_client e.role.side) (sym h.state) ∙ h.side in
         let last = last_sender the_end among_ends sends complete in
         let ours = client_peer the_end last.0 among_ends side last.1 in
         let y = last.2 ours in
@@ -675,10 +491,10 @@ module _ {S F D G K : Type 0} {stores : StoreMeaning S D} {sources : SourceMeani
     unique = one_there programs (kept 0) fresh;
     served = λ k client p found peer. served_by programs (kept 0) k client p found peer;
     at_port = at_its_port;
-    opened = was_opened;
-    given = was_given;
-    taken = was_taken;
+    opened = was_opened programs (kept 0);
+    given = was_given programs (kept 0);
+    taken = was_taken programs (kept 0);
     got = has_got;
-    gave = has_given;
+    gave = has_given programs (kept 0);
     put = has_put;
   }

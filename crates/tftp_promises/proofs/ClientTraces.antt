@@ -1,13 +1,20 @@
 -- What a client notes, step by step.
-use Rattle.tftp_promises.proofs.Common.{common_steps, ◌≡◌, ℕ, List, [], ◌∷◌, ◌++◌, Option, Some, None, refl, ap, ◌∙◌}
-use Rattle.tftp_promises.proofs.Common.{arith, rules, ◌⊎◌, AllByRecursion, append_cancel_right, SinkMeaning}
-use Rattle.tftp_promises.proofs.Common.{SourceMeaning, Files, EndState, Reply, Endpoint, SocketEvent, answered}
-use Rattle.tftp_promises.proofs.Common.{Received, Sent, Watched, Elapsed, Printed, Quiet, Empty, Failed, Slept, State}
-use Rattle.tftp_promises.proofs.Common.{HandlesReceived, MayElapse, wait_at, Answers, Loses, Stays, Elapses, ClientDoes}
-use Rattle.tftp_promises.proofs.Common.{ClientRun, Starts, Goes_on, Receives_one, Reads_clock, Waits_until, Times_out}
-use Rattle.tftp_promises.proofs.Common.{File_works, Prints_line, IsOfPort, ClientProgram, ClientOpens}
-use Rattle.tftp_sockets.specs.Trace.{QuietEvent}
-use Rattle.tftp_promises.specs.Traces.{IsQuietAt, AsksFirst}
+use Rattle.tftp_promises.proofs.Common.{List, ℕ, ◌≡◌, rules, sym, Endpoint, refl, [], ◌∙◌, ap, SourceMeaning, Some}
+use Rattle.tftp_promises.proofs.Common.{subst, inl, inr, ◌∷◌, SinkMeaning, false, None, ◌++◌, EndState, ◌⊎◌, Contains}
+use Rattle.tftp_promises.proofs.Common.{Files, SocketEvent, Option, arith, Sent, outcome_of, Received, State, Reply}
+use Rattle.tftp_promises.proofs.Common.{Elapsed, timeout_turn, Receives_one, append_cancel_right, Outcome, ClientDoes}
+use Rattle.tftp_promises.proofs.Common.{Watched, Printed, Quiet, Act, answered, Answers, ClientOpens, common_steps}
+use Rattle.tftp_promises.proofs.Common.{Waits_until, Goes_on, ClientRun, Starts, begun, Times_out, acts_in}
+use Rattle.tftp_promises.proofs.Common.{HandlesReceived, Loses, is_some, To_read, Took, File_works, Prints_line}
+use Rattle.tftp_promises.proofs.Common.{Reads_clock, Said, ClientProgram, Elapses, To_write, Lost, Timed}
+use Rattle.tftp_promises.proofs.Common.{AllByRecursion, Slept, MayElapse, Stays, with_reply, Backoff, IsSome, IsOpen}
+use Rattle.tftp_promises.proofs.Common.{newest, Life, IsNoActAt, IsEventOf, Begins_so, Tells, wait_at, Begins, Times}
+use Rattle.tftp_promises.proofs.Common.{Opens, Hears, Empty, Sends, AreNoted, QuietEvent}
+use Rattle.tftp_sockets.specs.Trace.QuietEvent.{Failed}
+use Rattle.tftp_lives.specs.Lives.{Loses as Loses_it}
+use Rattle.tftp_lives.specs.Unanswered.{To_get, To_put}
+use Rattle.tftp_promises.specs.Lived.{Elapses_then, Passes, Receives, Misses, client_acts, elapsing_acts, handling_acts}
+use Rattle.tftp_promises.specs.Traces.{IsOfPort, IsQuietAt, AsksFirst}
 
 -- the events since `first` are of this port
 abbrev pub Since : ℕ → List SocketEvent → List SocketEvent → Type 0
@@ -74,3 +81,167 @@ module _ {G K : Type 0} {inputs : SourceMeaning G} {outputs : SinkMeaning K} whe
       let noted =
       append_cancel_right client.noted (since.0 ++ asked client.first.position.last_sent_to) client.before all in
       record { more = since.0; is = noted ∙ ap (λ (a : Endpoint). since.0 ++ asked a) there; own = since.2 }
+
+  -- a client notes events of its own port only
+  module _ {to : Endpoint} (client : ClientProgram inputs outputs to) where
+    own_event : (e : SocketEvent) → Contains client.noted e →
+        IsOfPort client.port e ⊎ (Sent client.port to client.first.position.last_sent ≡ e)
+    own_event e h =
+        let asks = asks_first to client in
+        let request = Sent client.port to client.first.position.last_sent in
+        grind (arith, common_steps)
+
+    pub sent_own : (port : ℕ) (a : Endpoint) (bytes : List ℕ) → Contains client.noted (Sent port a bytes) →
+        port ≡ client.port
+    sent_own port a bytes h = elim (own_event (Sent port a bytes) h) [
+      | inl own ↦ own
+      | inr request ↦ cc
+    ]
+
+    pub received_own : (port : ℕ) (from : Endpoint) (bytes : List ℕ) →
+        Contains client.noted (Received port from bytes) → port ≡ client.port
+    received_own port from bytes h = elim (own_event (Received port from bytes) h) [
+      | inl own ↦ own
+      | inr request ↦ absurd (no_request to client.first.position.last_sent request)
+    ] where
+      no_request : (a : Endpoint) (b : List ℕ) → Sent client.port a b ≡ Received port from bytes → ⊥
+      no_request a b e = cc
+
+-- The end of a client keeps its role.
+
+module _ {G K : Type 0} {inputs : SourceMeaning G} {outputs : SinkMeaning K} {port : ℕ} where
+  step_role : {s s' : State} {files files' : Files G K} → ClientDoes inputs outputs port s files s' files' →
+      s'.end.role ≡ s.end.role
+  step_role h0 = search rules
+
+  pub run_role : {first : State} {file : Files G K} {s : State} {files : Files G K} →
+      ClientRun inputs outputs port first file s files → s.end.role ≡ first.end.role
+  run_role Starts = refl
+  run_role (Goes_on run does) = step_role does ∙ run_role run
+
+-- The run of a client is a life of its end.
+
+-- an end that is not closed is open
+is_open : (o : Option Outcome) → (IsSome o → ⊥) → is_some o ≡ false
+is_open None h = refl
+is_open (Some outcome) h = absurd (h refl)
+
+module _ {G K : Type 0} {inputs : SourceMeaning G} {outputs : SinkMeaning K} {port : ℕ} where
+  handling_lives : {from : Endpoint} {bytes : List ℕ} {s next : State} {files files' : Files G K} {first : EndState}
+      (acts : List Act) (handles : HandlesReceived inputs outputs port from bytes s files next files') →
+      IsOpen s.end → Life inputs outputs first acts s.end →
+      Life inputs outputs first (handling_acts handles acts) next.end
+  handling_lives {from = from} {bytes = bytes} {s = s} acts (Answers still step) opened life =
+      Hears life (is_open (outcome_of s.end.position.phase) still) from bytes step
+  handling_lives {from = from} {bytes = bytes} {s = s} acts (Loses lost keeps) opened life =
+      Loses_it life (is_open (outcome_of s.end.position.phase) opened) from bytes
+
+  elapsing_lives : {s next : State} {first : EndState} (acts : List Act) (elapses : MayElapse port s next) →
+      Life inputs outputs first acts s.end → Life inputs outputs first (elapsing_acts elapses acts) next.end
+  elapsing_lives acts (Stays why) life = life
+  elapsing_lives {s = s} acts (Elapses due still) life =
+      Times life (is_open (outcome_of s.end.position.phase) still)
+
+  does_live : {s s' : State} {files files' : Files G K} {first : EndState} (acts : List Act)
+      (does : ClientDoes inputs outputs port s files s' files') → Life inputs outputs first acts s.end →
+      Life inputs outputs first (client_acts does acts) s'.end
+  does_live acts (Receives_one may later handles) life = handling_lives acts handles may.not_closed life
+  does_live acts (Times_out elapses) life = elapsing_lives acts elapses life
+  does_live acts does life = life
+
+  -- so it is
+  pub client_lives : {first : State} {file : Files G K} {s : State} {files : Files G K}
+      (run : ClientRun inputs outputs port first file s files) → Life inputs outputs first.end (acts_in run) s.end
+  client_lives Starts = Opens
+  client_lives (Goes_on run does) = does_live (acts_in run) does (client_lives run)
+
+-- a client's end opens
+pub client_opening : {G K : Type 0} {inputs : SourceMeaning G} {outputs : SinkMeaning K} {to : Endpoint}
+    {first : EndState} {file : Files G K} → ClientOpens inputs outputs to first file → Begins first
+client_opening {to = to} (To_read opens) =
+    To_get to opens.name opens.mode opens.asked opens.limit opens.retries opens.may.options.askable opens.is
+client_opening {to = to} (To_write opens) =
+    To_put to opens.name opens.mode opens.asked opens.length opens.limit opens.retries opens.may.options.askable
+    opens.is
+
+-- What the end of a client has handled and sent is just what its trace has of its port.
+
+-- ---- a trace that goes on
+module _ (port : ℕ) (before : List SocketEvent) where
+  abbrev pub Noted : List SocketEvent → List Act → Type 0
+  Noted events acts = AreNoted port before events acts
+
+  -- by an event that is no act
+  pub noted_on : (events : List SocketEvent) (acts : List Act) (e : SocketEvent) → IsNoActAt port e → Noted events acts →
+      Noted (e ∷ events) acts
+  noted_on events acts e other h = record {
+    noted = e ∷ h.noted;
+    is = ap (λ (es : List SocketEvent). e ∷ es) h.is;
+    tells = Passes e other h.tells;
+  }
+
+  -- by an act
+  act_told : {events : List SocketEvent} {acts : List Act} (e : SocketEvent) (act : Act) → IsEventOf port e act →
+      Tells port events acts → Tells port (e ∷ events) (act ∷ acts)
+  act_told {events} {acts} e (Took from bytes) is t =
+      subst (λ (x : SocketEvent). Tells port (x ∷ events) (Took from bytes ∷ acts)) (sym is) (Receives from bytes t)
+  act_told {events} {acts} e (Lost from bytes) is t =
+      subst (λ (x : SocketEvent). Tells port (x ∷ events) (Lost from bytes ∷ acts)) (sym is) (Misses from bytes t)
+  act_told {events} {acts} e (Said to bytes) is t =
+      subst (λ (x : SocketEvent). Tells port (x ∷ events) (Said to bytes ∷ acts)) (sym is) (Sends to bytes t)
+  act_told {events} {acts} e Timed is t =
+      subst (λ (x : SocketEvent). Tells port (x ∷ events) (Timed ∷ acts)) (sym is.1) (Elapses_then is.0 t)
+
+  pub noted_act : (events : List SocketEvent) (acts : List Act) (e : SocketEvent) (act : Act) → IsEventOf port e act →
+      Noted events acts → Noted (e ∷ events) (act ∷ acts)
+  noted_act events acts e act is h = search (rules, act_told)
+
+  pub noted_reply : (events : List SocketEvent) (acts : List Act) (reply : Option Reply) → Noted events acts →
+      Noted (answered port reply events) (with_reply reply acts)
+  noted_reply events acts reply h = search (rules, noted_act)
+
+-- ---- a client
+elapsing_noted : (before : List SocketEvent) {port : ℕ} {s next : State} (acts : List Act) (elapses : MayElapse port s next) →
+    AreNoted port before s.events acts → AreNoted port before next.events (elapsing_acts elapses acts)
+elapsing_noted before acts (Stays why) h = h
+elapsing_noted before {port = port} {s = s} acts (Elapses due still) h =
+    noted_reply port before (Elapsed port s.now ∷ s.events) (Timed ∷ acts) (timeout_turn s.end).reply
+    (noted_act port before s.events acts (Elapsed port s.now) Timed (s.now, refl) h)
+
+module _ {G K : Type 0} {inputs : SourceMeaning G} {outputs : SinkMeaning K} {port : ℕ} (before : List SocketEvent) where
+  handling_noted : {from : Endpoint} {bytes : List ℕ} {s next : State} {files files' : Files G K} (acts : List Act)
+      (handles : HandlesReceived inputs outputs port from bytes s files next files') →
+      AreNoted port before s.events (Took from bytes ∷ acts) → AreNoted port before s.events (Lost from bytes ∷ acts) →
+      AreNoted port before next.events (handling_acts handles acts)
+  handling_noted {from = from} {bytes = bytes} {s = s} acts (Answers {turn} still step) took lost =
+      noted_reply port before s.events (Took from bytes ∷ acts) turn.reply took
+  handling_noted acts (Loses why keeps) took lost = lost
+
+  does_noted : {s s' : State} {files files' : Files G K} (acts : List Act)
+      (does : ClientDoes inputs outputs port s files s' files') → AreNoted port before s.events acts →
+      AreNoted port before s'.events (client_acts does acts)
+  does_noted {s = s} acts (Receives_one {from = from} {bytes = bytes} {watch = watch} may later handles) h =
+      let es = Quiet (Slept (wait_at s)) ∷ s.events in
+      let slept = noted_on port before s.events acts (Quiet (Slept (wait_at s))) tt h in
+      handling_noted acts handles
+      (noted_on port before (Received port from bytes ∷ es) (Took from bytes ∷ acts) (Watched watch) tt
+      (noted_act port before es acts (Received port from bytes) (Took from bytes) refl slept))
+      (noted_on port before (Received port from bytes ∷ es) (Lost from bytes ∷ acts) (Watched watch) tt
+      (noted_act port before es acts (Received port from bytes) (Lost from bytes) refl slept))
+  does_noted {s = s} acts (Reads_clock progress {watch} later) h = noted_on port before s.events acts (Watched watch) tt h
+  does_noted {s = s} acts (Waits_until {event = event} {watch = watch} may which later) h =
+      let es = Quiet (Slept (wait_at s)) ∷ s.events in
+      noted_on port before (Quiet event ∷ es) acts (Watched watch) tt
+      (noted_on port before es acts (Quiet event) tt (noted_on port before s.events acts (Quiet (Slept (wait_at s))) tt h))
+  does_noted acts (Times_out elapses) h = elapsing_noted before acts elapses h
+  does_noted acts (File_works works) h = h
+  does_noted {s = s} acts (Prints_line line) h = noted_on port before s.events acts (Printed line) tt h
+
+  -- the trace of a client tells of what it did
+  pub client_noted : {backoff : Backoff} {reading : ℕ} {end : EndState} {file : Files G K} {s : State} {files : Files G K}
+      (run : ClientRun inputs outputs port (begun backoff port reading end before) file s files) →
+      AreNoted port before s.events (acts_in run)
+  client_noted {end = end} Starts =
+      noted_act port before before [] (Sent port end.position.last_sent_to end.position.last_sent) (newest end) refl
+      (record { noted = []; is = refl; tells = Begins_so })
+  client_noted (Goes_on run does) = does_noted (acts_in run) does (client_noted run)

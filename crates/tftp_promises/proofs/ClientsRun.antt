@@ -1,14 +1,71 @@
--- What a client did is one run of it, and that of a program.
-use Rattle.tftp_promises.proofs.Common.{◌≡◌, ℕ, List, [], ◌∷◌, ◌++◌, append_assoc, refl, sym, ap, subst, ◌∙◌}
-use Rattle.tftp_promises.proofs.Common.{SinkMeaning, SourceMeaning, Files, EndState, Endpoint, SocketEvent, Sent}
-use Rattle.tftp_promises.proofs.Common.{Backoff, begun, State, ClientRun, Starts, Goes_on, Receives_one, Waits_until}
-use Rattle.tftp_promises.proofs.Common.{Reads_clock, Times_out, File_works, Prints_line, moved_in, ClientOpens}
+-- What a server did is one run of it.
+use Rattle.tftp_promises.proofs.Common.{List, ℕ, ◌≡◌, rules, sym, Endpoint, refl, [], ◌∙◌, ap, SourceMeaning, subst}
+use Rattle.tftp_promises.proofs.Common.{StoreMeaning, ◌∷◌, SinkMeaning, ◌++◌, EndState, Files, SocketEvent, LoopState}
+use Rattle.tftp_promises.proofs.Common.{LoopStep, Sent, Run, State, Then, Start, ServerState, moved_in, Receives_one}
+use Rattle.tftp_promises.proofs.Common.{append_assoc, ClientOpens, Waits_until, Goes_on, ClientRun, Starts, begun}
+use Rattle.tftp_promises.proofs.Common.{Times_out, File_works, Prints_line, Reads_clock, Backoff, at_start, LoopConfig}
 use Rattle.tftp_client.specs.Moved.{Moved, handling_moves, run_moves}
 use Rattle.tftp_client.specs.Converses.{Converses, progress_of}
 use Rattle.tftp_client.specs.Converses.Converses.{Begins, Receives, Waits, Times, Rests}
+use Rattle.tftp_promises.specs.Programs.{ServersAreRuns}
+use Rattle.tftp_promises.specs.Lines.{printed_lines, close_lines, closed_lines}
 use Rattle.tftp_promises.specs.ClientRuns.{ClientsAreRuns}
 use Rattle.tftp_promises.specs.ClientPrograms.{ClientsArePrograms, IsClientRun}
+use Rattle.tftp_promises.proofs.StepEvents.{step_adds}
 use Rattle.tftp_promises.proofs.ClientTraces.{converse}
+
+-- what it noted
+pub server_noted : {S F D : Type 0} {stores : StoreMeaning S D} {sources : SourceMeaning F}
+    {start last : LoopState S F D} → Run (LoopStep stores sources) start last →
+    (noted : List SocketEvent) × (last.events ≡ noted ++ start.events)
+server_noted Start = ([], refl)
+server_noted {start = start} (Then run does) =
+    let adds = step_adds does in
+    let before = server_noted run in (
+      adds.0 ++ before.0,
+      adds.1
+          ∙ (ap (λ (es : List SocketEvent). adds.0 ++ es) before.1 ∙ sym (append_assoc adds.0 before.0 start.events)),
+    )
+
+pub servers_run : {S F D : Type 0} (stores : StoreMeaning S D) (sources : SourceMeaning F) →
+    ServersAreRuns stores sources
+servers_run stores sources to start last run requests empty idle max_block = record {
+  server = record {
+    start = start;
+    last = last;
+    run = run;
+    noted = (server_noted run).0;
+    is_noted = (server_noted run).1;
+    requests = requests;
+    empty = empty;
+    idle = idle;
+    max_block = max_block;
+  };
+  starts = refl;
+  arrives = refl;
+}
+
+-- Each line of a run is that of a transfer that it removed.
+
+module _ {S F D : Type 0} {stores : StoreMeaning S D} {sources : SourceMeaning F} where
+  step_lines : (old new : LoopState S F D) (does : LoopStep stores sources old new) →
+      printed_lines new.events ≡ close_lines does ++ printed_lines old.events
+  step_lines old new does = search rules
+
+  run_lines : {first now : LoopState S F D} (run : Run (LoopStep stores sources) first now) →
+      printed_lines now.events ≡ closed_lines run ++ printed_lines first.events
+  run_lines Start = refl
+  run_lines {first} {now} (Then {middle} run does) =
+      step_lines middle now does
+      ∙ (ap (λ (ls : List (List ℕ)). close_lines does ++ ls) (run_lines run)
+      ∙ sym (append_assoc (close_lines does) (closed_lines run) (printed_lines first.events)))
+
+  pub lines_are_closes : (config : LoopConfig) (port reading : ℕ) (first : ServerState S F D) (before : List SocketEvent)
+      (now : LoopState S F D) (run : Run (LoopStep stores sources) (at_start config port first reading before) now) →
+      printed_lines now.events ≡ closed_lines run ++ printed_lines before
+  lines_are_closes config port reading first before now run = run_lines run
+
+-- What a client did is one run of it, and that of a program.
 
 module _ {G K : Type 0} {inputs : SourceMeaning G} {outputs : SinkMeaning K} {port : ℕ} {first : State}
     {file : Files G K} where

@@ -1,28 +1,22 @@
 -- In the end state of the traces no two ends share an endpoint, and the peer of a client is the transfer of the server
 -- that its request opened, for the path of its name.
-use Rattle.tftp_promises.proofs.Common.{◌≡◌, ℕ, Bool, true, false, not, List, [], Ok, Some, refl, sym, ap, ◌∙◌, subst}
-use Rattle.tftp_promises.proofs.Common.{inl, inr, rules, slice_get, option_map, Contains, true≢false, same_Some}
-use Rattle.tftp_promises.proofs.Common.{slice_get-map, Spells, Read, Write, one_meaning, path_of_name, SinkMeaning}
-use Rattle.tftp_promises.proofs.Common.{SourceMeaning, Files, EndState, is_client, is_sender, request_of, StoreMeaning}
-use Rattle.tftp_promises.proofs.Common.{Attests, Endpoint, Machine, Message, Party, Request, open_view, message, said}
-use Rattle.tftp_promises.proofs.Common.{EndView, requested, spells_own, TransferState, at, IsEnd, ProgramEnd}
-use Rattle.tftp_promises.proofs.Common.{ServesClient, client_end, transfer_end, moved_in, ArePortsFresh, Programs}
-use Rattle.tftp_promises.proofs.Common.{requests_at, ClientOf, ClientOpens, To_read, To_write, client_at, HasOpened}
-use Rattle.tftp_promises.proofs.Common.{joined, Has_asked, all_of}
-use Rattle.std.specs.Prelude.{not}
-use Rattle.tftp_wire.specs.declared.packet.Packet.{Packet as WirePacket}
-use Rattle.tftp_wire.specs.declared.packet.Request.{Request as WireRequest}
+use Rattle.tftp_promises.proofs.Common.{List, ℕ, ◌≡◌, rules, sym, Endpoint, refl, [], ◌∙◌, ap, SourceMeaning, Some}
+use Rattle.tftp_promises.proofs.Common.{subst, inl, StoreMeaning, inr, SinkMeaning, false, true, Programs, Bool}
+use Rattle.tftp_promises.proofs.Common.{EndState, Contains, Files, true≢false, slice_get, TransferState, joined}
+use Rattle.tftp_promises.proofs.Common.{ClientOf, is_sender, client_at, same_Some, at, open_view, Spells, Message}
+use Rattle.tftp_promises.proofs.Common.{moved_in, WirePacket, EndView, not, requests_at, Ok, is_client, message, all_of}
+use Rattle.tftp_promises.proofs.Common.{said, client_end, WireRequest, ClientOpens, requested, HasOpened, To_read}
+use Rattle.tftp_promises.proofs.Common.{ArePortsFresh, Read, To_write, request_of, ServesClient, ProgramEnd, IsEnd}
+use Rattle.tftp_promises.proofs.Common.{Attests, path_of_name, Write, Machine, spells_own, Party, transfer_end}
+use Rattle.tftp_promises.proofs.Common.{one_meaning, Request, Matches, Shows, request_packet, shown_by, own_client}
 use Rattle.tftp_rules.specs.Facts.{IsServing}
 use Rattle.tftp_rules.specs.Machine.{Packet}
-use Rattle.tftp_rules.specs.Shows.{Matches, Shows, answered_by}
-use Rattle.tftp_rules.proofs.Refines.{shown_by}
-use Rattle.tftp_rules.proofs.Steps.{own_client}
+use Rattle.tftp_rules.specs.Shows.{answered_by}
 use Rattle.tftp_promises.specs.AnyFiles.{peer_of}
-use Rattle.tftp_promises.specs.Programs.{name_of, request_packet}
-use Rattle.tftp_promises.proofs.Invariant.{ClientKept, IsKept, TransferKept}
+use Rattle.tftp_promises.specs.Programs.{name_of}
+use Rattle.tftp_promises.proofs.Invariant.{ClientKept, IsKept, TransferKept, client_kept}
 use Rattle.tftp_promises.proofs.KeptAsks.{says_request}
-use Rattle.tftp_promises.proofs.KeptShown.{views_end}
-use Rattle.tftp_promises.proofs.KeptViews.{view_there}
+use Rattle.tftp_promises.proofs.KeptViews.{views_end, view_there}
 use Rattle.tftp_promises.proofs.Places.{clients_there}
 
 has_bytes : (write : Bool) (request : WireRequest) (bytes : List ℕ) → Spells (requested write request) bytes →
@@ -86,18 +80,11 @@ module _ {S F D G K : Type 0} {stores : StoreMeaning S D} {sources : SourceMeani
   abbrev there : Client → Endpoint
   there client = client_at client
 
-  client_kept : (k : ℕ) (client : Client) → slice_get programs.clients k ≡ Some client →
-      ClientKept programs pad kept.views kept.messages client client.last client.files (moved_in client.runs)
-  client_kept k client found =
-      kept.clients k client (Has_asked client.last client.files client.noted (moved_in client.runs)) found
-      (slice_get-map (λ (c : Client). Has_asked c.last c.files c.noted (moved_in c.runs)) programs.clients k
-      ∙ ap (option_map (λ (c : Client). Has_asked c.last c.files c.noted (moved_in c.runs))) found)
-
   -- no transfer is where a client is
   client_alone : (k : ℕ) (client : Client) (port : ℕ) (transfer : TransferState F D) (a : Endpoint) →
       slice_get programs.clients k ≡ Some client → HasOpened programs port transfer a → there client ≡ a → ⊥
   client_alone k client port transfer a found opened same =
-      let x = client_kept k client found in
+      let x = client_kept kept k client found in
       let y = kept.transfers port transfer a opened in
       let one : open_view y.end ≡ open_view x.end =
       view_there kept.shown x.viewed (y.viewed.index, y.viewed.viewed) (y.address ∙ (sym same ∙ sym x.address)) in
@@ -126,7 +113,7 @@ module _ {S F D G K : Type 0} {stores : StoreMeaning S D} {sources : SourceMeani
     to = requests_at programs
 
     x : ClientKept programs pad kept.views kept.messages client client.last client.files (moved_in client.runs)
-    x = client_kept k client found
+    x = client_kept kept k client found
 
     abbrev m : Machine
     m = (shown_by (joined programs) kept.views kept.messages kept.shown).0
@@ -216,7 +203,7 @@ module _ {S F D G K : Type 0} {stores : StoreMeaning S D} {sources : SourceMeani
         let there_matches : Matches view (m.party p) = rw (at_peer.3) at (shows.ends at_peer.0 view at_peer.2) in
         elim (kept.only view (at_peer.0, at_peer.2)) [
           | inl of ↦
-              let z = client_kept of.k of.client of.found in
+              let z = client_kept kept of.k of.client of.found in
               let one : view ≡ open_view z.end =
               view_there kept.shown z.viewed (at_peer.0, at_peer.2) (of.address ∙ sym z.address) in
               absurd (true≢false (sym z.side ∙ (ap (λ (v : EndView). v.client) (sym one) ∙ (sym there_matches.client ∙

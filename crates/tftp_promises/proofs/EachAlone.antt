@@ -1,26 +1,36 @@
--- A server and each of its clients are joined: the other servers and the other clients are strangers then.
-use Rattle.tftp_promises.proofs.Common.{common_steps, ◌≡◌, ℕ, ◌+◌, ◌<◌, List, [], ◌∷◌, ◌++◌, length, map, Bool, true}
-use Rattle.tftp_promises.proofs.Common.{false, Some, None, refl, sym, ap, ◌∙◌, subst, zero, suc, arith, inl, inr, rules}
-use Rattle.tftp_promises.proofs.Common.{◌≢◌, ◌⊎◌, ◌==◌, if◌then◌else◌, slice_get, Contains, cases_Bool, cases_eq}
-use Rattle.tftp_promises.proofs.Common.{eq-eqb, eqb-true, ne_eqb, true≢false, Contains-append_left}
-use Rattle.tftp_promises.proofs.Common.{Contains-append_right, same_Some, slice_get-map, SinkMeaning, SourceMeaning}
-use Rattle.tftp_promises.proofs.Common.{StoreMeaning, Endpoint, SocketEvent, Received, Sent, Watched, Elapsed, Printed}
-use Rattle.tftp_promises.proofs.Common.{Quiet, alone, heard_with, AreJoined, IsOfPort, CanCome, IsError, IsHonest}
-use Rattle.tftp_promises.proofs.Common.{IsStranger, IsOrder, MayCome, TakesOwn, Noted, Programs, events_of, ips}
-use Rattle.tftp_promises.proofs.Common.{ServerProgram, client_at, endpoint, Several, number_of}
+-- Rules of the guarded machine lead to the ends of programs in an honest network, which so keep the promises of a
+-- transfer.
+use Rattle.tftp_promises.proofs.Common.{List, ℕ, ◌≡◌, rules, sym, Endpoint, refl, [], ◌∙◌, ap, SourceMeaning, Some}
+use Rattle.tftp_promises.proofs.Common.{subst, inl, StoreMeaning, inr, ◌∷◌, SinkMeaning, false, true, None, ◌++◌}
+use Rattle.tftp_promises.proofs.Common.{Programs, Bool, ◌⊎◌, Contains, SocketEvent, true≢false, arith, ◌≢◌, length}
+use Rattle.tftp_promises.proofs.Common.{slice_get, Sent, if◌then◌else◌, client_at, Received, endpoint, same_Some, suc}
+use Rattle.tftp_promises.proofs.Common.{IsStranger, Noted, ◌==◌, cases_Bool, zero, ◌<◌, cases_eq, ◌+◌, Elapsed, eq-eqb}
+use Rattle.tftp_promises.proofs.Common.{map, Watched, Printed, AreJoined, events_of, Quiet, Contains-append_left}
+use Rattle.tftp_promises.proofs.Common.{common_steps, TakesOwn, Contains-append_right, MayCome, IsHonest, eqb-true}
+use Rattle.tftp_promises.proofs.Common.{ne_eqb, slice_get-map, IsError, heard_with, alone, CanCome, number_of, IsOrder}
+use Rattle.tftp_promises.proofs.Common.{ips, ServerProgram, OneClient, IsAtOf, Several, OneServer, WasSent, has_port}
+use Rattle.tftp_promises.proofs.Common.{IsHonestOf, CanComeOf}
+use Rattle.tftp_promises.specs.Joined.{ProgramsKeepAnyFiles}
 use Rattle.tftp_promises.specs.Alone.{AreAmong, EachIsJoined, EachKeepsAnyFiles, EachTakesOne}
-use Rattle.tftp_promises.specs.Order.{CanComeOf, IsAtOf, IsHonestOf}
 use Rattle.tftp_promises.specs.Order.{IsStrangerTo}
-use Rattle.tftp_promises.specs.Order.{WasSent}
-use Rattle.tftp_promises.specs.Programs.{has_port}
-use Rattle.tftp_promises.specs.Several.{OneClient, OneServer, all_sent_from, apart_from, ips_of, known_ports}
-use Rattle.tftp_promises.specs.Several.{other_ports, others_sent_from, sent_from}
-use Rattle.tftp_promises.proofs.ClientTraces.{asks_first}
-use Rattle.tftp_promises.proofs.KeptEvents.{first_or_more, nothing_in}
-use Rattle.tftp_promises.proofs.Orders.{first_in, later_in, mapped, noted_in}
+use Rattle.tftp_promises.specs.Several.{all_sent_from, apart_from, ips_of, known_ports, other_ports, others_sent_from}
+use Rattle.tftp_promises.specs.Several.{sent_from}
+use Rattle.tftp_promises.proofs.JointRuns.{traces_joint}
+use Rattle.tftp_promises.proofs.AnyKept.{any_kept}
+use Rattle.tftp_promises.proofs.KeptFresh.{kept_at_last}
+use Rattle.tftp_promises.proofs.KeptServes.{server_steps_keep}
+use Rattle.tftp_promises.proofs.ClientTraces.{sent_own, received_own}
+use Rattle.tftp_promises.proofs.Orders.{first_or_more, nothing_in, first_in, later_in, mapped, noted_in}
 use Rattle.tftp_promises.proofs.Places.{port_has, port_in}
-use Rattle.tftp_promises.proofs.ProgramsShown.{programs_keep_any}
 use Rattle.tftp_promises.proofs.TakesOne.{takes_none_or_one}
+
+module _ {S F D G K : Type 0} (stores : StoreMeaning S D) (sources : SourceMeaning F) (inputs : SourceMeaning G)
+    (outputs : SinkMeaning K) where
+  pub programs_keep_any : ProgramsKeepAnyFiles stores sources inputs outputs
+  programs_keep_any programs order joined =
+      search (rules, any_kept, kept_at_last, traces_joint, server_steps_keep)
+
+-- A server and each of its clients are joined: the other servers and the other clients are strangers then.
 
 -- ---- the events of one server and of one client
 -- an event before others: of the server, or of the client
@@ -142,8 +152,7 @@ not_in_apart own (p ∷ ports) port has c =
 -- ---- the programs by their numbers
 -- a number is that of a server, or of a client
 pub number_cases : {X Y : Type 0} (xs : List X) (ip : List ℕ) (f : Y → List ℕ) (ys : List Y) (p : ℕ) (at : List ℕ) →
-    slice_get (map (λ (x : X). ip) xs ++ map f ys) p ≡ Some at →
-    ((x : X) × (slice_get xs p ≡ Some x) × (at ≡ ip))
+    slice_get (map (λ (x : X). ip) xs ++ map f ys) p ≡ Some at → ((x : X) × (slice_get xs p ≡ Some x) × (at ≡ ip))
     ⊎ ((k : ℕ) × (y : Y) × (slice_get ys k ≡ Some y) × (p ≡ length xs + k) × (at ≡ f y))
 number_cases [] ip f ys p at e = search (rules, mapped, slice_get-map)
 number_cases (x ∷ xs) ip f ys zero at e = inl (x, refl, sym (same_Some ip at e))
@@ -174,8 +183,7 @@ module _ {S F D G K : Type 0} {stores : StoreMeaning S D} {sources : SourceMeani
     {outputs : SinkMeaning K}
     (several : Several stores sources inputs outputs) (all : List Noted) (i : ℕ) (server : OneServer several) (k : ℕ)
     (client : OneClient several) (at_i : slice_get several.servers i ≡ Some server)
-    (found : slice_get several.clients k ≡ Some client)
-    (among : AreAmong several all i server k client) where
+    (found : slice_get several.clients k ≡ Some client) (among : AreAmong several all i server k client) where
   abbrev Client : Type 0
   Client = OneClient several
 
@@ -187,30 +195,6 @@ module _ {S F D G K : Type 0} {stores : StoreMeaning S D} {sources : SourceMeani
 
   two_numbers : i ≢ m
   two_numbers same = let l = within_length several.servers i server at_i in omega (arith, l, same)
-
-  -- a client notes events of its own port only
-  own_event : (c : Client) (e : SocketEvent) → Contains c.noted e →
-      IsOfPort c.port e ⊎ (Sent c.port (endpoint several.ip several.port) c.first.position.last_sent ≡ e)
-  own_event c e h =
-      let asks = asks_first (endpoint several.ip several.port) c in
-      let request = Sent c.port (endpoint several.ip several.port) c.first.position.last_sent in
-      grind (arith, common_steps)
-
-  pub sent_own : (c : Client) (port : ℕ) (to : Endpoint) (bytes : List ℕ) → Contains c.noted (Sent port to bytes) →
-      port ≡ c.port
-  sent_own c port to bytes h = elim (own_event c (Sent port to bytes) h) [
-    | inl own ↦ own
-    | inr request ↦ cc
-  ]
-
-  received_own : (c : Client) (port : ℕ) (from : Endpoint) (bytes : List ℕ) →
-      Contains c.noted (Received port from bytes) → port ≡ c.port
-  received_own c port from bytes h = elim (own_event c (Received port from bytes) h) [
-    | inl own ↦ own
-    | inr request ↦ absurd (no_request (endpoint several.ip several.port) c.first.position.last_sent request)
-  ] where
-    no_request : (to : Endpoint) (b : List ℕ) → Sent c.port to b ≡ Received port from bytes → ⊥
-    no_request to b e = cc
 
   own_port : (j : ℕ) (c : Client) → slice_get several.clients j ≡ Some c →
       (port : ℕ) (to : Endpoint) (bytes : List ℕ) → Contains all (number_of several j, Sent port to bytes) →
@@ -392,8 +376,7 @@ module _ {S F D G K : Type 0} (stores : StoreMeaning S D) (sources : SourceMeani
   pub each_keeps_any : EachKeepsAnyFiles stores sources inputs outputs
   each_keeps_any several order i server k client at_i found served =
       programs_keep_any stores sources inputs outputs (alone several i server client)
-      (heard_with i (number_of several k) order)
-      (each_joined several order i server k client at_i found served)
+      (heard_with i (number_of several k) order) (each_joined several order i server k client at_i found served)
 
   pub each_takes_one : EachTakesOne stores sources inputs outputs
   each_takes_one several client =

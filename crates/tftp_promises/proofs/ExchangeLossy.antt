@@ -1,20 +1,18 @@
 -- The programs of the exchange are joined, and meet the premises of bounded loss, though a datagram was lost.
-use Rattle.tftp_promises.proofs.Common.{◌≡◌, ◌+◌, ◌≤◌, ℕ, Bool, true, false, List, [], ◌∷◌, ◌++◌, refl, ap, ◌∙◌, arith}
-use Rattle.tftp_promises.proofs.Common.{inl, reverse, suc, ◌≢◌, memory_source, memory_sink, memory_meaning, Took, Said}
-use Rattle.tftp_promises.proofs.Common.{EndState, Endpoint, ServesClient, WasHeld, acts_at, acts_in, our_ports}
-use Rattle.tftp_promises.proofs.Common.{AreJoined, HasOpened, IsHonest, TakesOwn, Programs, events_of, client_ip}
-use Rattle.tftp_promises.proofs.Common.{read_port, reader, server_ip}
-use Rattle.tftp_promises.proofs.Common.{IsStranger, ips}
+use Rattle.tftp_promises.proofs.Common.{List, ℕ, ◌≡◌, rules, Endpoint, refl, [], ◌∙◌, ap, inl, ◌∷◌, false, true, ◌++◌}
+use Rattle.tftp_promises.proofs.Common.{Programs, Bool, EndState, arith, ◌≢◌, suc, IsStranger, ◌≤◌, ◌+◌, our_ports}
+use Rattle.tftp_promises.proofs.Common.{AreJoined, events_of, TakesOwn, acts_in, HasOpened, Took, acts_at, Said}
+use Rattle.tftp_promises.proofs.Common.{ServesClient, IsHonest, ips, memory_source, WasHeld, OneAct, reader}
+use Rattle.tftp_promises.proofs.Common.{memory_meaning, memory_sink, read_port, client_ip, AreBounded}
+use Rattle.std.proofs.Common.{reverse}
 use Rattle.std.specs.Prelude.{get_or}
-use Rattle.tftp_lives.specs.Outlasting.{OneAct, ArriveInTime, AnswersPromptly, acts_of, timeouts}
+use Rattle.tftp_lives.specs.Outlasting.{ArriveInTime, AnswersPromptly, acts_of, timeouts}
 use Rattle.tftp_lives.proofs.OneOrder.{timeouts_append}
-use Rattle.tftp_promises.specs.Outlasting.{AreBounded}
-use Rattle.tftp_promises.specs.Witness.{SomeOutlastLoss, exchange, lossy_acts}
-use Rattle.tftp_promises.proofs.ExchangeParts.{read_spelled}
-use Rattle.tftp_promises.proofs.ExchangeReader.{accepts_does, dallying, reading, stored, stores_does, times_does, waits_does}
+use Rattle.tftp_promises.specs.Witness.{server_ip, SomeOutlastLoss, exchange, lossy_acts}
+use Rattle.tftp_promises.proofs.ExchangeReader.{read_spelled, accepts_does, dallying, reading, stored, stores_does}
+use Rattle.tftp_promises.proofs.ExchangeReader.{times_does, waits_does}
 use Rattle.tftp_promises.proofs.ExchangeServer.{asks_to_read, completes_read, handles, opens_read, sends_block, server}
-use Rattle.tftp_promises.proofs.ExchangeServer.{serves as serves_reader}
-use Rattle.tftp_promises.proofs.ExchangeStates.{read_by, reading_2, s4}
+use Rattle.tftp_promises.proofs.ExchangeServer.{serves as serves_reader, read_by, reading_2, s4}
 use Rattle.tftp_promises.proofs.OthersTaken.{takes_none}
 use Rattle.tftp_promises.proofs.TwoAlone.{comes_from, each, fresh_of_two, honest_if, two_alone}
 
@@ -79,8 +77,7 @@ few later rest e =
     omega (arith, one, all)
 
 arrive : (x y : Bool) (a b : Endpoint) (e : EndState) → ArriveInTime lossy_acts 1 x y a b e
-arrive x y a b e later earlier bytes is long =
-    let some = few later ((x, Said b bytes) ∷ earlier) is in absurd (omega (arith, some, long))
+arrive x y a b e later earlier bytes is long = search (rules, few)
 
 promptly : (y : Bool) (a : Endpoint) → AnswersPromptly lossy_acts 1 y a
 promptly y a later between earlier answer bytes is none =

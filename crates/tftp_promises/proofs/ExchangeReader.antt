@@ -1,19 +1,51 @@
--- The client of the exchange, which reads, and whose ACK 0 is lost.
-use Rattle.tftp_promises.proofs.Common.{ℕ, true, false, List, [], Some, Ok, refl, sym, arith, inl, inr, true≢false}
-use Rattle.tftp_promises.proofs.Common.{Octet, Data, Oack, agreed_options, memory_sink}
-use Rattle.tftp_promises.proofs.Common.{memory_source, Files, Sink, Accept, Terms, EndState, oack_bytes, timeout_turn}
-use Rattle.tftp_promises.proofs.Common.{DatagramStep, Done, Turn, after_turn, committed_turn, data_bytes, response_turn}
-use Rattle.tftp_promises.proofs.Common.{agreed_terms, Empty, State, Answers, Constant, Elapses, begun, received}
-use Rattle.tftp_promises.proofs.Common.{ClientDoes, Starts, Goes_on, Receives_one, Waits_until, Times_out}
-use Rattle.tftp_promises.proofs.Common.{ClientProgram, To_read, agreed, blocks_of_8, client_ip, read_file, read_name}
-use Rattle.tftp_promises.proofs.Common.{read_port, read_at, requests}
+-- What the steps of the exchange have in common: packets that are spelled, and files in memory.
+use Rattle.tftp_promises.proofs.Common.{List, ℕ, ◌≡◌, rules, sym, refl, [], Some, inl, inr, ◌∷◌, false, true, EndState}
+use Rattle.tftp_promises.proofs.Common.{Files, true≢false, arith, Turn, State, Sink, Spells, after_turn, ◌<◌, Ok}
+use Rattle.tftp_promises.proofs.Common.{timeout_turn, DatagramStep, Receives_one, ClientDoes, Ack, Answers, Waits_until}
+use Rattle.tftp_promises.proofs.Common.{Goes_on, Starts, begun, Times_out, Terms, To_read, Read, Data, ClientProgram}
+use Rattle.tftp_promises.proofs.Common.{Elapses, request_of, Oack, response_turn, ◌^◌, data_bytes, oack_bytes}
+use Rattle.tftp_promises.proofs.Common.{agreed_options, received, Accept, agreed_terms, memory_source, Done}
+use Rattle.tftp_promises.proofs.Common.{committed_turn, ack_bytes, read_file, blocks_of_8, Constant, agreed}
+use Rattle.tftp_promises.proofs.Common.{read_request, read_name, requests, Octet, turned, Empty, memory_sink, elapsed}
+use Rattle.tftp_promises.proofs.Common.{read_port, client_ip, getting, waited}
+use Rattle.std.proofs.Common.{decimal}
+use Rattle.std.proofs.lemmas.Fmt.{decimal_digit}
+use Rattle.tftp_negotiate.specs.Options.{number_of, name_of}
+use Rattle.tftp_negotiate.proofs.LawsLemmas.{numbers_are_printed}
+use Rattle.tftp_file.specs.Memory.{MustRefuseAppend, new_mem_sink, MemSinkState}
+use Rattle.tftp_ends.specs.Opening.{MayGet}
 use Rattle.tftp_negotiate.specs.Agreement.{taken_option}
 use Rattle.tftp_negotiate.specs.Negotiation.{occurrences_of}
-use Rattle.tftp_negotiate.specs.Options.{name_of}
-use Rattle.tftp_file.specs.Memory.{MemSinkState, new_mem_sink}
-use Rattle.tftp_ends.specs.Opening.{getting}
-use Rattle.tftp_client.specs.Converses.{elapsed, turned, waited}
-use Rattle.tftp_promises.proofs.ExchangeParts.{block_spelled, may_read, oack_spelled, read_8, takes_all}
+use Rattle.tftp_promises.specs.Witness.{read_at}
+
+-- ---- how 8 is written, and read
+pub eight : decimal 8 ≡ 56 ∷ []
+eight = decimal_digit 8 (omega arith)
+
+pub read_8 : number_of (decimal 8) ≡ Some 8
+read_8 = (numbers_are_printed (decimal 8) 8).1 (refl, omega arith)
+
+-- ---- the packets
+pub may_read : MayGet read_name Octet blocks_of_8
+may_read = record { valid = rw eight (search rules); options = search rules }
+
+pub read_spelled : Spells (Read (request_of read_name Octet blocks_of_8)) read_request
+read_spelled = record { valid = may_read.valid; word = 111 ∷ 99 ∷ 116 ∷ 101 ∷ 116 ∷ []; mode = refl; whole = refl }
+
+pub oack_spelled : Spells (Oack (agreed_options agreed)) (oack_bytes agreed)
+oack_spelled = record { valid = rw eight (search rules); word = []; mode = refl; whole = refl }
+
+pub ack_spelled : (number : ℕ) → number < 2 ^ 16 → Spells (Ack number) (ack_bytes number)
+ack_spelled number fits = record { valid = fits; word = []; mode = refl; whole = refl }
+
+pub block_spelled : (byte : ℕ) → Spells (Data 1 (byte ∷ [])) (data_bytes 1 (byte ∷ []))
+block_spelled byte = search rules
+
+-- ---- a sink in memory that is not full refuses nothing
+pub takes_all : {P : Type 0} (bytes : List ℕ) → MustRefuseAppend (new_mem_sink 10 false) bytes → P
+takes_all bytes must = search rules
+
+-- The client of the exchange, which reads, and whose ACK 0 is lost.
 
 abbrev at_first : EndState
 at_first = getting requests read_name Octet blocks_of_8 10 3

@@ -1,25 +1,128 @@
--- The server of the exchange, step by step.
-use Rattle.tftp_promises.proofs.Common.{◌≡◌, ℕ, ◌<◌, ◌≤◌, true, false, List, [], ◌∷◌, Some, None, Ok, refl, sym, arith}
-use Rattle.tftp_promises.proofs.Common.{rules, inl, ⊤, true≢false, Octet, Read, Ack}
-use Rattle.tftp_promises.proofs.Common.{IsBlockSize, memory_source, Files, Source, request_of, AreSame, Turn}
-use Rattle.tftp_promises.proofs.Common.{after_turn, ack_bytes, memory_meaning, Stored, Drafted, files_in, A_transfer}
-use Rattle.tftp_promises.proofs.Common.{left_by, at, is_closed, with_next, StepIn, answered, Received, Run, Start, Then}
-use Rattle.tftp_promises.proofs.Common.{slice_index_or, slice_set, length, Timer, PortState, LoopStep, A_datagram}
-use Rattle.tftp_promises.proofs.Common.{Request_received, ServerProgram, blocks_of_8, read_file, read_name}
-use Rattle.tftp_promises.proofs.Common.{read_request, reader, requests}
+-- The states of the server of the exchange: its file, its ends, its transfer and its timer.
+use Rattle.tftp_promises.proofs.Common.{List, ℕ, ◌≡◌, rules, sym, refl, [], Some, inl, ◌∷◌, false, true, None, EndState}
+use Rattle.tftp_promises.proofs.Common.{Files, true≢false, arith, LoopState, length, TransferState, LoopStep, Sent}
+use Rattle.tftp_promises.proofs.Common.{Received, at, Run, Turn, Source, Then, Start, ServerState, ◌≤◌, after_turn, ◌<◌}
+use Rattle.tftp_promises.proofs.Common.{Ok, A_transfer, IsBlockSize, with_next, Ack, answered, PortState, left_by}
+use Rattle.tftp_promises.proofs.Common.{Config, Terms, Read, request_of, At_port, A_datagram, serving_read, AreSame}
+use Rattle.tftp_promises.proofs.Common.{response_turn, files_in, ⊤, is_closed, data_bytes, oack_bytes, at_start}
+use Rattle.tftp_promises.proofs.Common.{LoopConfig, StepIn, agreed_terms, memory_source, ServerProgram, AsksToRead}
+use Rattle.tftp_promises.proofs.Common.{Timer, slice_set, ack_bytes, reader, memory_meaning, read_file, blocks_of_8}
+use Rattle.tftp_promises.proofs.Common.{Complete, filled_turn, Request_received, Constant, agreed, read_request}
+use Rattle.tftp_promises.proofs.Common.{KeepsStore, read_name, requests, slice_index_or, Octet}
+use Rattle.tftp_loop.specs.Steps.{timer_after, most_in_round}
+use Rattle.tftp_store.specs.Store.{Stored, Drafted}
+use Rattle.tftp_sockets.specs.Watch.{last_moment}
 use Rattle.tftp_negotiate.specs.Answer.{answered_option}
 use Rattle.tftp_negotiate.specs.Negotiation.{occurrences_of}
 use Rattle.tftp_negotiate.specs.Options.{name_of}
 use Rattle.tftp_ends.specs.declared.outgoing.Outgoing.{Outgoing}
 use Rattle.tftp_ends.specs.declared.outgoing.Outgoing.TheVariants.{Nothing, LastSent}
 use Rattle.tftp_ends.specs.Step.{lent, reply_bytes, reported}
-use Rattle.tftp_server.specs.Draft.{KeepsStore}
-use Rattle.tftp_server.specs.Request.{AsksToRead}
-use Rattle.tftp_loop.specs.Steps.{most_in_round, timer_after}
-use Rattle.tftp_loop.specs.Steps.LoopStep.{At_port, Request_answered}
-use Rattle.tftp_promises.proofs.ExchangeParts.{ack_spelled, read_8, read_spelled}
-use Rattle.tftp_promises.proofs.ExchangeStates.{Held, Loop, completes, config, read_by, reading_0, reading_1, sends}
-use Rattle.tftp_promises.proofs.ExchangeStates.{serving, store, timed, s0, s1, s2, s3, s4}
+use Rattle.tftp_loop.specs.Steps.LoopStep.{Request_answered}
+use Rattle.tftp_promises.proofs.ExchangeReader.{ack_spelled, read_8, read_spelled}
+
+abbrev pub Held : Type 0
+Held = TransferState (List ℕ) Drafted
+
+abbrev pub Server : Type 0
+Server = ServerState Stored (List ℕ) Drafted
+
+abbrev pub Loop : Type 0
+Loop = LoopState Stored (List ℕ) Drafted
+
+-- ---- the server at its start
+abbrev pub config : Config
+config = record { limits = record { max_block = 512; max_file = 10 }; retries = 3; cap = 2; overwrite = false }
+
+abbrev pub service : LoopConfig
+service = record {
+  listen = requests;
+  ports = None;
+  ending = record { transfers = 1; rounds = 2 };
+  longest = None;
+  backoff = Constant;
+  requests_only = false;
+  per_client = None;
+  drains = false;
+  logs = false;
+  has_priority = false;
+}
+
+abbrev pub store : Stored
+store = record { files = (read_name, read_file) ∷ []; refuses = false }
+
+abbrev pub serving : List (ℕ × Held) → Server
+serving held = record { config = config; store = store; held = held }
+
+-- ---- the ends
+abbrev terms : Terms
+terms = agreed_terms reader agreed
+
+abbrev pub reading_0 : EndState
+reading_0 = serving_read agreed reader Octet 1 3 []
+
+abbrev pub sends : Turn
+sends = filled_turn terms 1 reader read_file reading_0 (Ok 1)
+
+abbrev pub reading_1 : EndState
+reading_1 = after_turn reading_0 sends
+
+abbrev pub completes : Turn
+completes = response_turn Complete reader reading_1
+
+abbrev pub reading_2 : EndState
+reading_2 = after_turn reading_1 completes
+
+-- ---- the transfer, and its timer after so many datagrams
+abbrev pub read_by : EndState → List ℕ → Held
+read_by end source = record { end = end; files = Source source; path = read_name; request = read_request }
+
+abbrev pub timed : ℕ → Timer
+timed received =
+    record {
+      port = 1024;
+      peer = reader;
+      interval = 1;
+      backoff = Constant;
+      timeouts = 0;
+      deadline = 1000;
+      marked = false;
+      look_at = 500;
+      provisional = true;
+      age_limit = last_moment;
+      received = received;
+    }
+
+-- ---- the states
+abbrev pub s0 : Loop
+s0 = at_start service 69 (serving []) 0 []
+
+abbrev pub s1 : Loop
+s1 = record s0 { pending = Some (reader, read_request); asked = true; events = Received 69 reader read_request ∷ [] }
+
+abbrev pub s2 : Loop
+s2 = record s1 {
+  server = serving ((1024, read_by reading_0 read_file) ∷ []);
+  pending = None;
+  timers = timed 0 ∷ [];
+  events = Sent 1024 reader (oack_bytes agreed) ∷ s1.events;
+}
+
+abbrev pub s3 : Loop
+s3 = record s2 {
+  server = serving ((1024, read_by reading_1 []) ∷ []);
+  timers = timed 1 ∷ [];
+  events = Sent 1024 reader (data_bytes 1 read_file) ∷ Received 1024 reader (ack_bytes 0) ∷ s2.events;
+}
+
+abbrev pub s4 : Loop
+s4 = record s3 {
+  server = serving ((1024, read_by reading_2 []) ∷ []);
+  timers = timed 2 ∷ [];
+  events = Received 1024 reader (ack_bytes 1) ∷ s3.events;
+}
+
+-- The server of the exchange, step by step.
 
 -- ---- the steps
 abbrev Step : Loop → Loop → Type 0
@@ -40,14 +143,12 @@ module _ (old : Loop) (timer : Timer) (transfer : Held) (bytes : List ℕ) (turn
 
   unfoldable pub handles : old.now ≤ timer.age_limit → timer.received < most_in_round → 0 < length old.timers →
       timer ≡ slice_index_or old.timers 0 timer → at timer.port old.server.held ≡ Some transfer →
-      is_closed transfer ≡ false →
-      StepIn memory_meaning memory_source reader bytes transfer.end
+      is_closed transfer ≡ false → StepIn memory_meaning memory_source reader bytes transfer.end
       (files_in old.server.store transfer.path old.server.config.overwrite transfer.files) turn
       (files_in old.server.store transfer.path old.server.config.overwrite files) →
       lent outgoing (after_turn transfer.end turn) ≡ reply_bytes turn.reply →
       KeepsStore transfer.files old.server.store old.server.store →
-      AreSame (λ (a b : List ℕ). ⊤) (λ (a b : Drafted). ⊤) transfer.files files →
-      Step old (record old {
+      AreSame (λ (a b : List ℕ). ⊤) (λ (a b : Drafted). ⊤) transfer.files files → Step old (record old {
         server = port_after.server;
         timers = slice_set old.timers 0 port_after.timer;
         events = port_after.events;

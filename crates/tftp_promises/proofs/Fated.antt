@@ -1,15 +1,14 @@
 -- Each datagram at the request port is settled. For the law each_request_is_settled.
-use Rattle.tftp_promises.proofs.Common.{◌≡◌, ℕ, List, Option, Some, None, sym, ap, ◌∙◌, subst, inl, inr, ◌⊎◌}
-use Rattle.tftp_promises.proofs.Common.{IsBlockSize, SourceMeaning, StoreMeaning, Config, Run, Start, Then}
-use Rattle.tftp_promises.proofs.Common.{AnswersRequest, LoopState, LoopStep, Request_received, Request_lost}
-use Rattle.tftp_ends.specs.declared.endpoint.Endpoint.{Endpoint}
+use Rattle.tftp_promises.proofs.Common.{List, ℕ, ◌≡◌, rules, sym, Endpoint, ◌∙◌, ap, SourceMeaning, Some, subst, inl}
+use Rattle.tftp_promises.proofs.Common.{StoreMeaning, inr, None, ◌⊎◌, Option, LoopState, LoopStep, Run, Then, Start}
+use Rattle.tftp_promises.proofs.Common.{IsBlockSize, state_is, Config, AnswersRequest, Request_lost, Request_received}
 use Rattle.tftp_loop.specs.Steps.LoopStep.{Request_answered}
 use Rattle.tftp_promises.specs.Fates.{IsAnswered, Is_known, Is_refused, Opens, RequestsAreSettled, WasReceived}
 use Rattle.tftp_promises.specs.Fates.{WasSettled}
-use Rattle.tftp_promises.proofs.PortAnswers.{Begins_to_send, Begins_to_store, PortAnswers, Says_error, Silent}
-use Rattle.tftp_promises.proofs.PortAnswers.{port_answers}
+use Rattle.tftp_promises.proofs.Requested.{Begins_to_send, Begins_to_store, PortAnswers, Says_error, Silent}
+use Rattle.tftp_promises.proofs.Requested.{port_answers}
 use Rattle.tftp_promises.proofs.TransferLives.{run_config}
-use Rattle.tftp_loop.proofs.NewStates.{state_is}
+use Rattle.tftp_promises.proofs.Orders.{both_parts}
 
 module _ {S F D : Type 0} (stores : StoreMeaning S D) (sources : SourceMeaning F) where
   -- how the port answers
@@ -19,14 +18,6 @@ module _ {S F D : Type 0} (stores : StoreMeaning S D) (sources : SourceMeaning F
   answered_by d (Says_error refused) = Is_refused refused.reply refused.store refused.is
   answered_by d (Begins_to_send path mode options asked o) = Opens _ _ o.is
   answered_by d (Begins_to_store path mode options asked o) = Opens _ _ o.is
-
-  -- the pending datagram is the one that a step handles
-  same_pending : (a b : Endpoint) (x y : List ℕ) (o : Option (Endpoint × List ℕ)) → o ≡ Some (a, x) → o ≡ Some (b, y) →
-      (a ≡ b) × (x ≡ y)
-  same_pending a b x y o e f =
-      let g : Some (a, x) ≡ Some (b, y) = sym e ∙ f in
-      let h : ◌≡◌ {A = Endpoint × List ℕ} (a, x) (b, y) = cc in
-      (ap (λ (z : Endpoint × List ℕ). z.0) h, ap (λ (z : Endpoint × List ℕ). z.1) h)
 
   nothing_pending : {P : Type 0} (from : Endpoint) (bytes : List ℕ) (o : Option (Endpoint × List ℕ)) → o ≡ None →
       o ≡ Some (from, bytes) → P
@@ -43,8 +34,7 @@ module _ {S F D : Type 0} (stores : StoreMeaning S D) (sources : SourceMeaning F
     -- a step that leaves the pending datagram
     stays_known : {old new : LoopState S F D} (run : Run (LoopStep stores sources) start old)
         (does : LoopStep stores sources old new) → new.pending ≡ old.pending → Known run → Known (Then run does)
-    stays_known run does same (inl pending) = inl (same ∙ pending)
-    stays_known run does same (inr settled) = inr (inr settled)
+    stays_known run does same h3 = search rules
 
     known : {now : LoopState S F D} (run : Run (LoopStep stores sources) start now) → WasReceived from bytes run → Known run
     known Start received = absurd received
@@ -56,7 +46,7 @@ module _ {S F D : Type 0} (stores : StoreMeaning S D) (sources : SourceMeaning F
     ]
     known (Then {middle} run (Request_answered d)) (inr before) = elim (known run before) [
       | inl pending ↦
-          let same = same_pending d.from from d.bytes bytes middle.pending d.pending pending in
+          let same = both_parts d.from from d.bytes bytes middle.pending d.pending pending in
           let here = subst (λ (c : Config). IsBlockSize c.limits.max_block) (sym (run_config stores sources run)) max in
           inr (inl (
             same.0,
@@ -66,7 +56,7 @@ module _ {S F D : Type 0} (stores : StoreMeaning S D) (sources : SourceMeaning F
       | inr settled ↦ inr (inr settled)
     ]
     known (Then {middle} run (Request_lost d)) (inr before) = elim (known run before) [
-      | inl pending ↦ inr (inl (same_pending d.from from d.bytes bytes middle.pending d.pending pending))
+      | inl pending ↦ inr (inl (both_parts d.from from d.bytes bytes middle.pending d.pending pending))
       | inr settled ↦ inr (inr settled)
     ]
     known (Then run does) (inr before) = stays_known run does (ap pending_of (state_is does)) (known run before)

@@ -1,55 +1,42 @@
 -- What is known of the datagram that a client without a peer refused: the server sent it, and an OACK is its answer to the
 -- client's request. For RefusedAnswers.
-use Rattle.tftp_promises.proofs.Common.{◌≡◌, ℕ, ◌+◌, ◌≤◌, Bool, true, false, not, List, [], ◌∷◌, length, Some, None}
-use Rattle.tftp_promises.proofs.Common.{refl, sym, ap, ◌∙◌, subst, arith, inl, inr, ◌≢◌, ◌&&◌, ◌==◌, nat_le, option_map}
-use Rattle.tftp_promises.proofs.Common.{slice_get, Contains, true≢false, cases_Bool, eq-eqb, append_cancel_right}
-use Rattle.tftp_promises.proofs.Common.{Contains-append_left, Contains-push, slice_get-map, Spells, RawOption, Packet}
-use Rattle.tftp_promises.proofs.Common.{Read, Write, Data, Ack, Error, Oack, one_meaning, agreed_options, Asked, Known}
-use Rattle.tftp_promises.proofs.Common.{DEFAULT_BLOCK, IsBlockSize, SinkMeaning, SourceMeaning, Outcome, Role, EndState}
-use Rattle.tftp_promises.proofs.Common.{is_sender, oack_bytes, has_opcode, A_transfer, TransferState, Config}
-use Rattle.tftp_promises.proofs.Common.{StoreMeaning, Attests, Request, At_client, At_server, Elsewhere, Endpoint}
-use Rattle.tftp_promises.proofs.Common.{Machine, Message, Network, Party, open_view, peer_of, message, said, requested}
-use Rattle.tftp_promises.proofs.Common.{spells_own, client_end, moved_in, IsRefusal, AreJoined, acts_in, joined}
-use Rattle.tftp_promises.proofs.Common.{our_ports, Noted, Programs, ClientOf, IsError, requests_at, client_at}
-use Rattle.tftp_promises.proofs.Common.{Has_asked, all_of, SocketEvent, Received, Sent, Has}
+use Rattle.tftp_promises.proofs.Common.{List, ℕ, ◌≡◌, rules, sym, Endpoint, refl, [], ◌∙◌, ap, SourceMeaning, Some}
+use Rattle.tftp_promises.proofs.Common.{subst, inl, StoreMeaning, inr, ◌∷◌, SinkMeaning, false, true, None, Programs}
+use Rattle.tftp_promises.proofs.Common.{Bool, EndState, Contains, SocketEvent, arith, ◌≢◌, length, slice_get}
+use Rattle.tftp_promises.proofs.Common.{TransferState, Sent, joined, ClientOf, is_sender, client_at, Received}
+use Rattle.tftp_promises.proofs.Common.{open_view, Spells, Message, moved_in, Noted, ◌==◌, cases_Bool, ◌≤◌}
+use Rattle.tftp_promises.proofs.Common.{Contains-push, not, requests_at, ◌+◌, A_transfer, message, all_of, our_ports}
+use Rattle.tftp_promises.proofs.Common.{eq-eqb, IsBlockSize, append_cancel_right, Outcome, peer_of, said, AreJoined}
+use Rattle.tftp_promises.proofs.Common.{Ack, Role, Contains-append_left, Elsewhere, client_end, WireRequest, Known}
+use Rattle.tftp_promises.proofs.Common.{Config, Has, acts_in, ◌&&◌, Network, requested, Read, Error, Data, Packet, Oack}
+use Rattle.tftp_promises.proofs.Common.{RawOption, Asked, At_server, IsError, Attests, Write, Machine, spells_own}
+use Rattle.tftp_promises.proofs.Common.{Party, DEFAULT_BLOCK, oack_bytes, agreed_options, one_meaning, Request}
+use Rattle.tftp_promises.proofs.Common.{has_opcode, IsRefusal, nat_le, At_client, Matches, Shows, own_client, peer_at}
+use Rattle.tftp_promises.proofs.Common.{run, Host, start, IsValid, Holds, same_ips, block}
 use Rattle.std.proofs.lemmas.Bool.{le-leb}
-use Rattle.tftp_wire.specs.Spelling.{IsValid}
-use Rattle.tftp_wire.specs.declared.packet.Request.{Request as WireRequest}
-use Rattle.tftp_file.specs.Block.{block}
-use Rattle.tftp_ends.specs.declared.outcome.Outcome.TheVariants as outcomes
-use Rattle.tftp_rules.specs.Facts.{Holds, home}
+use Rattle.tftp_rules.specs.Facts.{home}
 use Rattle.tftp_rules.specs.Machine.{Packet as Said}
-use Rattle.tftp_rules.specs.Machine.{Host}
-use Rattle.tftp_rules.specs.Machine.{start}
-use Rattle.tftp_rules.specs.Rules.{run}
-use Rattle.tftp_rules.specs.Shows.{Matches, Shows}
 use Rattle.tftp_rules.proofs.BlamelessActions.{decoded_is}
 use Rattle.tftp_rules.proofs.Blocks.{length-block}
 use Rattle.tftp_rules.proofs.NumbersNear.{AreNear, near_run, near_start}
-use Rattle.tftp_rules.proofs.PhaseMoves.{same_ips}
 use Rattle.tftp_rules.proofs.PlainPeers.{plain_answer}
 use Rattle.tftp_rules.proofs.RulesGrow.{GoToPort, run_goes, start_goes}
 use Rattle.tftp_rules.proofs.Runs.{Holds-start, Holds-run}
-use Rattle.tftp_rules.proofs.Steps.{own_client}
-use Rattle.tftp_promises.specs.AnyFiles.{peer_of as peer_at}
-use Rattle.tftp_promises.proofs.ClientRoles.{run_role}
-use Rattle.tftp_promises.proofs.ClientTraces.{asks_there}
+use Rattle.tftp_ends.specs.declared.outcome.Outcome.TheVariants as outcomes
+use Rattle.tftp_promises.proofs.ClientTraces.{run_role, asks_there, client_noted}
 use Rattle.tftp_promises.proofs.ClientsServed.{asks_so, wire_of, writes}
-use Rattle.tftp_promises.proofs.FirstRefused.{ClosesBy, IsRefused, tells_took}
+use Rattle.tftp_promises.proofs.FirstRefused.{ClosesBy, IsRefused}
 use Rattle.tftp_promises.proofs.HonestOrders.{IsOfOne, came_to_client, came_to_server}
-use Rattle.tftp_promises.proofs.Invariant.{ClientKept, IsKept, IsThere}
+use Rattle.tftp_promises.proofs.Invariant.{ClientKept, IsKept, IsThere, client_kept}
 use Rattle.tftp_promises.proofs.JointRuns.{traces_joint}
 use Rattle.tftp_promises.proofs.KeptAsks.{says_request}
-use Rattle.tftp_promises.proofs.KeptRuns.{kept_at_last}
-use Rattle.tftp_promises.proofs.KeptSteps.{server_steps_keep}
+use Rattle.tftp_promises.proofs.KeptFresh.{kept_at_last}
+use Rattle.tftp_promises.proofs.KeptServes.{server_steps_keep}
 use Rattle.tftp_promises.proofs.OacksSent.{IsOpenedBy, oack_opens}
-use Rattle.tftp_promises.proofs.PortAnswers.{PortAnswers}
-use Rattle.tftp_promises.proofs.PortAnswers.{port_answers}
+use Rattle.tftp_promises.proofs.Requested.{PortAnswers, port_answers}
 use Rattle.tftp_promises.proofs.Places.{clients_there, stranger_no_client, strangers_elsewhere}
-use Rattle.tftp_promises.proofs.Refusing.{ClosesAt, closes_at}
-use Rattle.tftp_promises.proofs.Refusing.{error_closes}
-use Rattle.tftp_promises.proofs.Refusing.{of_packet, waiting_as}
-use Rattle.tftp_promises.proofs.TraceLives.{client_noted}
+use Rattle.tftp_promises.proofs.Refusing.{ClosesAt, closes_at, error_closes, of_packet, waiting_as}
+use Rattle.tftp_promises.proofs.SeenLives.{tells_took}
 
 -- the sides of a host
 no_host : {P : Type 0} {h : Host} → h ≡ At_client → h ≡ At_server → P
@@ -59,18 +46,14 @@ refusal_no_error : (o : Outcome) (code : ℕ) → IsRefusal o → outcomes.PeerE
 refusal_no_error o code refusal same = subst IsRefusal (sym same) refusal
 
 both_true : (a b : Bool) → a ≡ true → b ≡ true → (a && b) ≡ true
-both_true true true e f = refl
-both_true true false e f = absurd (true≢false (sym f))
-both_true false b e f = absurd (true≢false (sym e))
+both_true a b e f = search rules
 
 module _ {S F D G K : Type 0} {stores : StoreMeaning S D} {sources : SourceMeaning F} {inputs : SourceMeaning G}
     {outputs : SinkMeaning K} {programs : Programs stores sources inputs outputs} {order : List Noted}
     (joins : AreJoined programs order) (k : ℕ) {client : ClientOf programs}
     (found : slice_get programs.clients k ≡ Some client) (none : peer_at (client_end programs client) ≡ None) where
   pub kept : IsKept 0 (all_of programs)
-  kept =
-      kept_at_last stores sources inputs outputs (traces_joint stores sources inputs outputs)
-      (λ p pad. server_steps_keep p pad) programs order joins 0
+  kept = search (rules, kept_at_last, traces_joint, server_steps_keep)
 
   abbrev pub network : Network
   network = joined programs
@@ -91,18 +74,14 @@ module _ {S F D G K : Type 0} {stores : StoreMeaning S D} {sources : SourceMeani
   shows = kept.shown.1.1
 
   goes : GoToPort network kept.messages
-  goes =
-      subst (λ (ms : List Message). GoToPort network ms) shows.sent
-      (run_goes network kept.shown.0 start (start_goes network) kept.shown.1.0)
+  goes = search (rules, run_goes, start, start_goes)
 
   abbrev pub a : Endpoint
   a = client_at client
 
   pub x : ClientKept programs 0 kept.views kept.messages client client.last client.files (moved_in client.runs)
   x =
-      kept.clients k client (Has_asked client.last client.files client.noted (moved_in client.runs)) found
-      (slice_get-map (λ (c : ClientOf programs). Has_asked c.last c.files c.noted (moved_in c.runs)) programs.clients k
-      ∙ ap (option_map (λ (c : ClientOf programs). Has_asked c.last c.files c.noted (moved_in c.runs))) found)
+      client_kept kept k client found
 
   at_x : Matches (open_view x.end) (ends a)
   at_x =
@@ -144,7 +123,7 @@ module _ {S F D G K : Type 0} {stores : StoreMeaning S D} {sources : SourceMeani
       asks_as (writes client.opens) (wire_of client.opens) client.first.position.last_sent (asks_so client.opens) x.asks
 
   -- ---- the datagram that it refused
-  module _ (o : Outcome) (refusal : IsRefusal o) (asked : Asked) (limit : ℕ)
+  module _ {o : Outcome} (refusal : IsRefusal o) {asked : Asked} {limit : ℕ}
       (r : IsRefused programs.ip programs.others client.first asked limit o (acts_in client.runs)) where
     abbrev from : Endpoint
     from = r.from
@@ -178,7 +157,7 @@ module _ {S F D G K : Type 0} {stores : StoreMeaning S D} {sources : SourceMeani
         let noted = client_noted client.before client.runs in
         subst (λ (es : List SocketEvent). Has (Received client.port r.from r.bytes) es)
         (append_cancel_right noted.noted client.noted client.before (sym noted.is ∙ client.is_noted))
-        (tells_took client.port noted.tells r.from r.bytes r.handled)
+        (tells_took client.port _ _ noted.tells r.from r.bytes r.handled)
 
     -- one of the programs sent it
     pub record WasSaid : Type 0 where
@@ -212,9 +191,7 @@ module _ {S F D G K : Type 0} {stores : StoreMeaning S D} {sources : SourceMeani
 
     -- it closed by what that says
     pub closes_so : (p : Packet) → Spells p r.bytes → ClosesBy o (waiting_as o r.end.role asked limit r.from (Some p))
-    closes_so p spells =
-        of_packet o r.end.role asked limit (requests_at programs) r.from r.bytes p r.decoded
-        (decoded_is r.bytes p r.decoded spells r.says) closing
+    closes_so p spells = search (rules, of_packet, requests_at, decoded_is, closing)
 
     -- ---- the end that sent it
     module _ (is_open : (ends r.from).is_open ≡ true) (peer : (ends r.from).peer ≡ Some a) where
@@ -278,8 +255,7 @@ module _ {S F D G K : Type 0} {stores : StoreMeaning S D} {sources : SourceMeani
         IsOfOne programs r.from a r.bytes → (port : ℕ) × Has (Sent port a r.bytes) programs.server.noted
     server_sent is_open peer (inl there) = there
     server_sent is_open peer (inr other) =
-        no_host
-        (ap network.host_of other.3 ∙ clients_there programs other.0 other.1 other.2) (here is_open peer)
+        no_host (ap network.host_of other.3 ∙ clients_there programs other.0 other.1 other.2) (here is_open peer)
 
     pub oack_is : (options : List RawOption) → Spells (Oack options) r.bytes → has_opcode 6 r.bytes ≡ true
     oack_is options spells = ap (has_opcode 6) spells.whole
@@ -298,24 +274,13 @@ module _ {S F D G K : Type 0} {stores : StoreMeaning S D} {sources : SourceMeani
 
     module _ (h : Opening) where
       request_came : Has (Received programs.port h.answers.from h.answers.bytes) programs.server.noted
-      request_came =
-          subst (λ (p : ℕ). Has (Received p h.answers.from h.answers.bytes) programs.server.noted)
-          programs.server.requests
-          (subst
-          (λ (es : List SocketEvent). Has (Received programs.server.start.requests h.answers.from h.answers.bytes) es)
-          (append_cancel_right h.noted programs.server.noted programs.server.start.events
-          (sym h.is ∙ programs.server.is_noted)) h.received)
+      request_came = search (rules, append_cancel_right)
 
       -- its request is that of the client
       module _ (write : Bool) (request : WireRequest) (spells : Spells (requested write request) h.answers.bytes) where
         no_error_request : (w : Bool) (q : WireRequest) → Spells (requested w q) h.answers.bytes →
             IsError h.answers.bytes → ⊥
-        no_error_request true q s error =
-            let f : Write q ≡ Error error.0 error.1 = one_meaning (Write q) (Error error.0 error.1) h.answers.bytes s error.2
-            in cc
-        no_error_request false q s error =
-            let f : Read q ≡ Error error.0 error.1 = one_meaning (Read q) (Error error.0 error.1) h.answers.bytes s error.2
-            in cc
+        no_error_request w q s error = search rules
 
         request_there : IsThere kept.messages a (requests_at programs) h.answers.bytes
         request_there =
@@ -352,16 +317,11 @@ module _ {S F D G K : Type 0} {stores : StoreMeaning S D} {sources : SourceMeani
 
       pub answer_is : PortAnswers stores sources h.old.server h.answers.from h.answers.bytes h.answers.steps.decoded
           h.answers.steps.repeated h.answers.steps.came
-      answer_is =
-          port_answers stores sources h.old.server h.answers.from h.answers.bytes max_block h.answers.tid h.answers.left
-          h.answers.steps
+      answer_is = search (rules, port_answers, max_block)
 
       pub same_end : (transfer : TransferState F D) (store : S) → h.answers.steps.came ≡ A_transfer transfer store →
           transfer.end.position.last_sent ≡ r.bytes
-      same_end transfer store is =
-          let e : A_transfer h.transfer h.store ≡ A_transfer transfer store = sym h.came ∙ is in
-          let same : h.transfer ≡ transfer = cc in
-          ap (λ (t : TransferState F D). t.end.position.last_sent) (sym same) ∙ h.first
+      same_end transfer store is = search rules
 
       -- what it says
       pub same_options : (agreed : List Known) → (agreed ≢ [] → IsValid (Oack (agreed_options agreed))) → agreed ≢ [] →

@@ -1,40 +1,29 @@
 -- A client that timed out was not answered by the transfer that serves it. For the law a_client_gives_up_unanswered.
-use Rattle.tftp_promises.proofs.Common.{append_assoc, ◌≡◌, ℕ, true, false, Option, Some, None, refl, sym, ap, ◌∙◌, ◌++◌}
-use Rattle.tftp_promises.proofs.Common.{[], ◌∷◌, ◌+◌, subst, arith, inl, inr, List, ◌⊎◌, slice_get, SinkMeaning}
-use Rattle.tftp_promises.proofs.Common.{SourceMeaning, EndState, is_complete, is_sender, outcome_of, record_of}
-use Rattle.tftp_promises.proofs.Common.{StoreMeaning, Endpoint, TransferState, at, drafting_sink, Act, Said, Has}
-use Rattle.tftp_promises.proofs.Common.{append_cancel_right, SocketEvent, Received, Sent, Run, Start, Then, LoopState}
-use Rattle.tftp_promises.proofs.Common.{LoopStep, Waited, Request_received, No_request_found, Request_not_received}
-use Rattle.tftp_promises.proofs.Common.{Request_noted, Request_lost, Clock_read, Store_set, Transfer_closed}
-use Rattle.tftp_promises.proofs.Common.{Drain_begun, ServesClient, client_end, WasHeld, AreJoined, acts_at, acts_in, ClientRun}
-use Rattle.tftp_promises.proofs.Common.{ClientOpens, To_read, To_write, same_address, Backoff, State, begun, Files}
-use Rattle.tftp_promises.proofs.Common.{true≢false, HasOpened, HasClosed, Noted, Programs, ClientOf, requests_at}
-use Rattle.tftp_promises.proofs.Common.{Removes, client_at}
-use Rattle.tftp_ends.specs.declared.outcome.Outcome.TheVariants as outcomes
-use Rattle.tftp_wire.specs.Spelling.{canonical}
-use Rattle.tftp_server.specs.State.{is_open}
-use Rattle.tftp_lives.specs.Lives.{HasCopies}
-use Rattle.tftp_lives.specs.Unanswered.{AreOpposite}
+use Rattle.tftp_promises.proofs.Common.{List, ℕ, ◌≡◌, rules, sym, Endpoint, refl, [], ◌∙◌, ap, SourceMeaning, Some}
+use Rattle.tftp_promises.proofs.Common.{subst, inl, StoreMeaning, inr, ◌∷◌, SinkMeaning, false, true, None, ◌++◌}
+use Rattle.tftp_promises.proofs.Common.{Programs, EndState, ◌⊎◌, Files, SocketEvent, Option, true≢false, arith}
+use Rattle.tftp_promises.proofs.Common.{LoopState, slice_get, TransferState, LoopStep, Sent, ClientOf, outcome_of}
+use Rattle.tftp_promises.proofs.Common.{is_sender, client_at, Received, at, Run, State, Then, Start, Noted, requests_at}
+use Rattle.tftp_promises.proofs.Common.{◌+◌, append_cancel_right, is_complete, AreJoined, Act, drafting_sink}
+use Rattle.tftp_promises.proofs.Common.{append_assoc, client_end, ClientOpens, Has, ClientRun, begun, acts_in}
+use Rattle.tftp_promises.proofs.Common.{HasClosed, HasOpened, To_read, acts_at, Said, To_write, ServesClient, is_open}
+use Rattle.tftp_promises.proofs.Common.{Transfer_closed, Backoff, Removes, WasHeld, AreNotedWhileOpen, same_address}
+use Rattle.tftp_promises.proofs.Common.{IsSeenUnanswered, HasCopies, AreOpposite, canonical, record_of}
 use Rattle.tftp_lives.proofs.OpenEnds.{flipped}
 use Rattle.tftp_lives.proofs.Unanswered.{give_up_unanswered, give_up_unheard}
-use Rattle.tftp_loop.specs.Steps.LoopStep.{At_port}
-use Rattle.tftp_loop.specs.Steps.LoopStep.{Request_answered}
+use Rattle.tftp_ends.specs.declared.outcome.Outcome.TheVariants as outcomes
 use Rattle.tftp_promises.specs.AnyFiles.{peer_of}
 use Rattle.tftp_promises.specs.GivesUp.{ClientsGiveUpUnanswered, ClientsTimeOutSo, GaveUpUnanswered, GaveUpUnheard}
-use Rattle.tftp_promises.specs.GivesUp.{IsSeenUnanswered}
 use Rattle.tftp_promises.specs.GivesUp.{TransfersGiveUpUnanswered}
-use Rattle.tftp_promises.specs.Lived.{AreNotedWhileOpen}
-use Rattle.tftp_promises.proofs.ClientTraces.{asks_there}
+use Rattle.tftp_promises.proofs.ClientTraces.{asks_there, client_lives, client_opening, client_noted}
 use Rattle.tftp_promises.proofs.FirstRefused.{still_asks}
 use Rattle.tftp_promises.proofs.OthersTaken.{takes_none}
-use Rattle.tftp_promises.proofs.ClientLives.{client_lives, client_opening}
 use Rattle.tftp_promises.proofs.ClientsServed.{served_by}
 use Rattle.tftp_promises.proofs.JointRuns.{traces_joint}
-use Rattle.tftp_promises.proofs.KeptRuns.{kept_at_last}
-use Rattle.tftp_promises.proofs.KeptSteps.{server_steps_keep}
+use Rattle.tftp_promises.proofs.KeptFresh.{kept_at_last}
+use Rattle.tftp_promises.proofs.KeptServes.{server_steps_keep}
 use Rattle.tftp_promises.proofs.SeenLives.{SeenSince, tells_copies, tells_received, tells_sent, tells_since}
 use Rattle.tftp_promises.proofs.StepEvents.{step_adds}
-use Rattle.tftp_promises.proofs.TraceLives.{client_noted}
 use Rattle.tftp_promises.proofs.TransferLives.{transfers_live}
 use Rattle.tftp_promises.proofs.TransferTraces.{transfers_noted}
 
@@ -44,17 +33,7 @@ module _ {S F D G K : Type 0} {stores : StoreMeaning S D} {sources : SourceMeani
   removed_at : {old new : LoopState S F D} (does : LoopStep stores sources old new) (port : ℕ)
       (transfer : TransferState F D) → Removes does port transfer → at port old.server.held ≡ Some transfer
   removed_at (Transfer_closed d) port transfer h = h.1
-  removed_at (Waited d) port transfer h = absurd h
-  removed_at (At_port d) port transfer h = absurd h
-  removed_at (Request_received d) port transfer h = absurd h
-  removed_at (No_request_found d) port transfer h = absurd h
-  removed_at (Request_not_received d) port transfer h = absurd h
-  removed_at (Request_noted d) port transfer h = absurd h
-  removed_at (Request_answered d) port transfer h = absurd h
-  removed_at (Request_lost d) port transfer h = absurd h
-  removed_at (Clock_read d) port transfer h = absurd h
-  removed_at (Store_set d) port transfer h = absurd h
-  removed_at (Drain_begun d) port transfer h = absurd h
+  removed_at does port transfer h = absurd h
 
   was_closed : {state : LoopState S F D} (run : Run (LoopStep stores sources) programs.server.start state)
       (since : List SocketEvent) → programs.server.last.events ≡ since ++ state.events → (port : ℕ)
@@ -89,8 +68,7 @@ module _ {S F D G K : Type 0} {stores : StoreMeaning S D} {sources : SourceMeani
   pub held_noted : (port : ℕ) (transfer : TransferState F D) (was : WasHeld programs port transfer) →
       AreNotedWhileOpen port programs.server.start.events was.state.events (is_open (Some transfer)) (acts_at port was.run)
   held_noted port transfer was =
-      subst
-      (λ (o : Option (TransferState F D)).
+      subst (λ (o : Option (TransferState F D)).
       AreNotedWhileOpen port programs.server.start.events was.state.events (is_open o) (acts_at port was.run)) was.held
       (transfers_noted stores sources programs.server.start programs.server.empty programs.server.max_block port was.run)
 
@@ -138,7 +116,7 @@ module _ {S F D G K : Type 0} {stores : StoreMeaning S D} {sources : SourceMeani
     seen_since =
         let tried = g.unanswered.tried in
         let since =
-        tells_since client.port g.client_noted.tells tried.later p newest_bytes tried.earlier
+        tells_since client.port _ _ g.client_noted.tells tried.later p newest_bytes tried.earlier
         (tried.is ∙ ap (λ (a : Act). tried.later ++ a ∷ tried.earlier) to_peer) in
         let many = tried.timeouts in
         let some = since.timeouts in
@@ -155,8 +133,7 @@ module _ {S F D G K : Type 0} {stores : StoreMeaning S D} {sources : SourceMeani
       copies =
           subst
           (λ (es : List SocketEvent). HasCopies (client.last.end.role.retries + 1) (Sent client.port p newest_bytes) es)
-          own_noted
-          (tells_copies client.port g.client_noted.tells (client.last.end.role.retries + 1) p newest_bytes
+          own_noted (tells_copies client.port _ _ g.client_noted.tells (client.last.end.role.retries + 1) p newest_bytes
           (subst (λ (a : Act). HasCopies (client.last.end.role.retries + 1) a (acts_in client.runs)) to_peer
           g.unanswered.tried.copies));
       later = seen_since.later;
@@ -164,8 +141,7 @@ module _ {S F D G K : Type 0} {stores : StoreMeaning S D} {sources : SourceMeani
       is = seen_since.is;
       timeouts = seen_since.timeouts;
       unreceived = λ packet bytes awaits spelled there.
-          elim
-          (tells_received client.port g.client_noted.tells p bytes
+          elim (tells_received client.port _ _ g.client_noted.tells p bytes
           (subst (λ (es : List SocketEvent). Has (Received client.port p bytes) es) (sym own_noted) there)) [
             | inl took ↦ absurd (g.unanswered.unheard packet bytes awaits spelled took)
             | inr lost ↦ lost
@@ -190,16 +166,14 @@ clients_give_up : {S F D G K : Type 0} (stores : StoreMeaning S D) (sources : So
     outcome_of client.last.end.position.phase ≡ Some outcomes.TimedOut →
     is_complete client.last.end.position.phase ≡ false → GaveUpUnanswered programs client p
 clients_give_up stores sources inputs outputs programs order joined k client p found peer out incomplete =
-    gave_up programs client p peer out incomplete
-    (served_by programs
+    gave_up programs client p peer out incomplete (served_by programs
     (kept_at_last stores sources inputs outputs (traces_joint stores sources inputs outputs)
     (λ p pad. server_steps_keep p pad) programs order joined 0) k client p found peer)
 
 pub clients_seen : {S F D G K : Type 0} (stores : StoreMeaning S D) (sources : SourceMeaning F)
     (inputs : SourceMeaning G) (outputs : SinkMeaning K) → ClientsGiveUpUnanswered stores sources inputs outputs
 clients_seen stores sources inputs outputs programs order joined k client p found peer out incomplete =
-    seen programs client p
-    (clients_give_up stores sources inputs outputs programs order joined k client p found peer out incomplete)
+    search (rules, seen, clients_give_up)
 
 module _ {S F D G K : Type 0} (stores : StoreMeaning S D) (sources : SourceMeaning F) (inputs : SourceMeaning G)
     (outputs : SinkMeaning K) where
@@ -207,8 +181,7 @@ module _ {S F D G K : Type 0} (stores : StoreMeaning S D) (sources : SourceMeani
   still_asking : {to : Endpoint} {first : EndState} {file : Files G K} {backoff : Backoff} {port reading : ℕ}
       {before : List SocketEvent} {s : State} {files : Files G K} → ClientOpens inputs outputs to first file →
       (run : ClientRun inputs outputs port (begun backoff port reading first before) file s files) →
-      (record_of s.end).peer ≡ None →
-      (s.end.position.last_sent ≡ first.position.last_sent)
+      (record_of s.end).peer ≡ None → (s.end.position.last_sent ≡ first.position.last_sent)
       × (s.end.position.last_sent_to ≡ first.position.last_sent_to)
   still_asking {first = first} {backoff = backoff} {port = port} {reading = reading} {before = before} (To_read opens) run
       none =
@@ -224,8 +197,7 @@ module _ {S F D G K : Type 0} (stores : StoreMeaning S D) (sources : SourceMeani
 
   -- a client without a peer
   pub gave_up_unheard : (programs : Programs stores sources inputs outputs) (client : ClientOf programs) →
-      peer_of (client_end programs client) ≡ None →
-      outcome_of client.last.end.position.phase ≡ Some outcomes.TimedOut →
+      peer_of (client_end programs client) ≡ None → outcome_of client.last.end.position.phase ≡ Some outcomes.TimedOut →
       is_complete client.last.end.position.phase ≡ false → GaveUpUnheard programs client
   gave_up_unheard programs client none out incomplete =
       let unheard =
@@ -242,17 +214,16 @@ module _ {S F D G K : Type 0} (stores : StoreMeaning S D) (sources : SourceMeani
         copies =
             subst (λ (es : List SocketEvent). HasCopies (client.last.end.role.retries + 1)
             (Sent client.port (requests_at programs) client.first.position.last_sent) es) same
-            (tells_copies client.port told.tells (client.last.end.role.retries + 1) (requests_at programs)
+            (tells_copies client.port _ _ told.tells (client.last.end.role.retries + 1) (requests_at programs)
             client.first.position.last_sent
             (subst (λ (a : Act). HasCopies (client.last.end.role.retries + 1) a (acts_in client.runs))
             (same_said client.last.end.position.last_sent_to (requests_at programs) client.last.end.position.last_sent
             client.first.position.last_sent (asks.1 ∙ asks_there client.opens) asks.0) unheard.tried.copies));
         unreceived = λ from bytes near there.
-            elim (tells_received client.port told.tells from bytes
+            elim (tells_received client.port _ _ told.tells from bytes
             (subst (λ (es : List SocketEvent). Has (Received client.port from bytes) es) (sym same) there)) [
               | inl took ↦
-                  absurd (true≢false
-                  (sym (subst (λ (a : Endpoint). same_address a from ≡ true)
+                  absurd (true≢false (sym (subst (λ (a : Endpoint). same_address a from ≡ true)
                   (sym (asks.1 ∙ asks_there client.opens)) near) ∙ unheard.unheard from bytes took))
               | inr lost ↦ lost
             ];

@@ -1,15 +1,13 @@
 -- What a program received in an order of an honest network was sent to it by one of the programs, or may come though none
 -- sent it. For the law a_client_ends_for_a_reason.
-use Rattle.tftp_promises.proofs.Common.{◌≡◌, ℕ, Bool, true, false, List, [], ◌∷◌, Some, refl, sym, ap, ◌∙◌, subst, zero}
-use Rattle.tftp_promises.proofs.Common.{suc, arith, inl, inr, ◌⊎◌, ◌==◌, if◌then◌else◌, slice_get, option_map, Contains}
-use Rattle.tftp_promises.proofs.Common.{eqb-true, Contains-append_cases, same_Some, slice_get-map, SinkMeaning}
-use Rattle.tftp_promises.proofs.Common.{SourceMeaning, StoreMeaning, Has, Endpoint, SocketEvent, Received, Sent}
-use Rattle.tftp_promises.proofs.Common.{moved_in, WasSentBefore, Noted, Programs, CanCome, ClientOf, IsHonest, IsOrder}
-use Rattle.tftp_promises.proofs.Common.{MayCome, events_of, requests_at, client_at, endpoint, ClientStage, Has_asked}
-use Rattle.tftp_promises.proofs.Common.{all_of, IsOfPort}
-use Rattle.std.proofs.lemmas.List.Elements.{All-contains, All-from_recursion}
-use Rattle.tftp_promises.specs.Order.{IsAt}
-use Rattle.tftp_promises.proofs.ClientTraces.{asks_first}
+use Rattle.tftp_promises.proofs.Common.{List, ℕ, ◌≡◌, rules, sym, Endpoint, refl, [], ◌∙◌, ap, SourceMeaning, Some}
+use Rattle.tftp_promises.proofs.Common.{subst, inl, StoreMeaning, inr, ◌∷◌, SinkMeaning, Programs, Bool, ◌⊎◌, Contains}
+use Rattle.tftp_promises.proofs.Common.{SocketEvent, arith, slice_get, Sent, ClientOf, if◌then◌else◌, client_at}
+use Rattle.tftp_promises.proofs.Common.{Received, endpoint, same_Some, suc, moved_in, Noted, ◌==◌, zero, requests_at}
+use Rattle.tftp_promises.proofs.Common.{all_of, WasSentBefore, Has_asked, events_of, Contains-append_cases, Has}
+use Rattle.tftp_promises.proofs.Common.{ClientStage, MayCome, IsHonest, eqb-true, slice_get-map, CanCome, IsOrder}
+use Rattle.tftp_promises.proofs.Common.{option_map, IsAt}
+use Rattle.tftp_promises.proofs.ClientTraces.{sent_own}
 use Rattle.tftp_promises.proofs.Orders.{later_in, mapped, noted_in, one_in}
 
 -- one of them is among them
@@ -33,24 +31,12 @@ module _ {S F D G K : Type 0} {stores : StoreMeaning S D} {sources : SourceMeani
 
   comes_later : (x : Noted) (order : List Noted) (program : ℕ) (e : SocketEvent) → ComesAt order program e →
       ComesAt (x ∷ order) program e
-  comes_later x order program e h = record {
-    earlier = h.earlier;
-    comes = h.comes;
-    before = λ n i. later_in x order n (h.before n i);
-  }
+  comes_later x order program e h = search (rules, later_in)
 
   comes_head : (x : Noted) (order : List Noted) (program : ℕ) (e : SocketEvent) → CanCome programs x.0 x.1 order →
       (Has e (events_of program order) → ComesAt order program e) → (b : Bool) → (x.0 == program) ≡ b →
       Has e (if b then x.1 ∷ events_of program order else events_of program order) → ComesAt (x ∷ order) program e
-  comes_head x order program e comes rest true is (inl here) = record {
-    earlier = order;
-    comes =
-        subst (λ (z : SocketEvent). CanCome programs program z order) here
-        (subst (λ (p : ℕ). CanCome programs p x.1 order) (eqb-true x.0 program is) comes);
-    before = λ n i. later_in x order n i;
-  }
-  comes_head x order program e comes rest true is (inr later) = comes_later x order program e (rest later)
-  comes_head x order program e comes rest false is later = comes_later x order program e (rest later)
+  comes_head x order program e comes rest b is h8 = search (rules, eqb-true, later_in, comes_later)
 
   comes_at : (order : List Noted) → IsHonest programs order → (program : ℕ) (e : SocketEvent) →
       Has e (events_of program order) → ComesAt order program e
@@ -63,25 +49,6 @@ module _ {S F D G K : Type 0} {stores : StoreMeaning S D} {sources : SourceMeani
   IsOfOne from to bytes =
       ((port : ℕ) × Has (Sent port to bytes) programs.server.noted)
       ⊎ ((k : ℕ) × (client : Client) × (slice_get programs.clients k ≡ Some client) × (from ≡ client_at client))
-
-  -- a client sends from its own port
-  same_port : (a b : ℕ) (to goes : Endpoint) (x y : List ℕ) → Sent a to x ≡ Sent b goes y → b ≡ a
-  same_port a b to goes x y e = cc
-
-  own_port : (client : Client) (port : ℕ) (to : Endpoint) (bytes : List ℕ) → Contains client.noted (Sent port to bytes) →
-      port ≡ client.port
-  own_port client port to bytes i =
-      let asks = asks_first (requests_at programs) client in
-      let request = Sent client.port (requests_at programs) client.first.position.last_sent in
-      elim (Contains-append_cases asks.more (request ∷ []) (Sent port to bytes)
-      (subst (λ (es : List SocketEvent). Contains es (Sent port to bytes)) asks.is i)) [
-        | inl more ↦
-            All-contains (IsOfPort client.port) asks.more (Sent port to bytes)
-            (All-from_recursion (IsOfPort client.port) asks.more asks.own) more
-        | inr first ↦
-            same_port client.port port (requests_at programs) to client.first.position.last_sent bytes
-            (one_in (Sent port to bytes) request first)
-      ]
 
   abbrev stage_of : Client → ClientStage G K
   stage_of c = Has_asked c.last c.files c.noted (moved_in c.runs)
@@ -138,7 +105,7 @@ module _ {S F D G K : Type 0} {stores : StoreMeaning S D} {sources : SourceMeani
                 k,
                 m.0,
                 m.1,
-                from_is ∙ ap (λ (p : ℕ). endpoint m.0.ip p) (own_port m.0 port to bytes there),
+                from_is ∙ ap (λ (p : ℕ). endpoint m.0.ip p) (sent_own m.0 port to bytes there),
               );
         }
 
@@ -158,8 +125,7 @@ module _ {S F D G K : Type 0} {stores : StoreMeaning S D} {sources : SourceMeani
     pub came_to_client : (k : ℕ) (client : Client) → slice_get programs.clients k ≡ Some client → (from : Endpoint)
         (bytes : List ℕ) → Has (Received client.port from bytes) client.noted → ComesTo from (client_at client) bytes
     came_to_client k client found from bytes there =
-        came_to (suc k) client.port (client_at client) from bytes
-        (λ to at.
+        came_to (suc k) client.port (client_at client) from bytes (λ to at.
         let ip_is : Some client.ip ≡ Some at.0 =
         sym (slice_get-map (λ (c : Client). c.ip) programs.clients k
         ∙ ap (option_map (λ (c : Client). c.ip)) found)

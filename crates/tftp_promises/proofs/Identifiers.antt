@@ -1,9 +1,10 @@
 -- The transfer at an identifier, after another one took its place or one was removed.
-use Rattle.tftp_promises.proofs.Common.{◌≡◌, ℕ, Bool, true, false, List, [], ◌∷◌, cond, Some, None, refl, sym, ap, ◌∙◌}
-use Rattle.tftp_promises.proofs.Common.{inl, inr, rules, ◌⊎◌, cases_eq, same_Some, is_at, nat_cmp, at, with_next}
-use Rattle.tftp_promises.proofs.Common.{without, numbers}
-use Rattle.std.proofs.Common.{◌≢◌}
-use Rattle.tftp_rules.proofs.Entries.{lookup-remove_other, lookup-set_other, lookup-set_same}
+use Rattle.tftp_promises.proofs.Common.{List, ℕ, ◌≡◌, rules, sym, refl, [], ◌∙◌, ap, Some, inl, inr, ◌∷◌, false, true}
+use Rattle.tftp_promises.proofs.Common.{None, Bool, ◌⊎◌, true≢false, ◌≢◌, same_Some, at, cases_eq, with_next, numbers}
+use Rattle.tftp_promises.proofs.Common.{without, with_new, is_at, cond, nat_cmp, lookup-insert_other}
+use Rattle.tftp_promises.proofs.Common.{lookup-remove_other, lookup-set_same, Equal, Ordering, is_eq, match_ordering}
+use Rattle.tftp_promises.proofs.Common.{Less, Greater, lookup-insert_same, lookup-set_other}
+use Rattle.tftp_rules.proofs.Entries.{at_same}
 use Rattle.tftp_promises.proofs.Invariant.{AreKeyedOnce}
 
 module _ {T : Type 0} where
@@ -54,8 +55,7 @@ module _ {T : Type 0} where
 
   -- ---- one removed
   out_none : (other : ℕ) (e : ℕ × T) (held more : List (ℕ × T)) (b : Bool) → is_at (nat_cmp other) e.0 ≡ false →
-      at other held ≡ None → at other more ≡ None →
-      at other (cond b held (e ∷ more)) ≡ None
+      at other held ≡ None → at other more ≡ None → at other (cond b held (e ∷ more)) ≡ None
   out_none other e held more b h none rest = search rules
 
   -- where none was found, none is
@@ -95,3 +95,43 @@ module _ {T : Type 0} where
         absurd (let f : None ≡ Some t = search (rules, at-without) in cc)
     | inr n ↦ (n, sym (lookup-remove_other numbers tid other held n) ∙ h)
   ]
+
+  -- The transfer at an identifier, after a new one was added.
+  -- a list with the new one, by the order of its identifier and the first one
+  abbrev placed : ℕ → T → ℕ × T → List (ℕ × T) → List (ℕ × T) → Ordering → List (ℕ × T)
+  placed tid new e held more o = match_ordering o ((tid, new) ∷ e ∷ held) ((e.0, new) ∷ held) (e ∷ more)
+
+  -- what is found is the new one, or was there before
+  pub at-with_new_cases : (tid other : ℕ) (new t : T) (held : List (ℕ × T)) →
+      at other (with_new tid new held) ≡ Some t →
+      ((other ≡ tid) × (new ≡ t)) ⊎ ((other ≢ tid) × (at other held ≡ Some t))
+  at-with_new_cases tid other new t held found = elim (cases_eq other tid) [
+    | inl same ↦
+        inl (
+          same,
+          same_Some new t (sym (lookup-insert_same numbers tid new held)
+              ∙ (ap (λ (k : ℕ). at k (with_new tid new held)) (sym same) ∙ found)),
+        )
+    | inr n ↦ inr (n, sym (lookup-insert_other numbers tid other new held n) ∙ found)
+  ]
+
+  none_rest : (tid : ℕ) (e : ℕ × T) (held : List (ℕ × T)) → at tid (e ∷ held) ≡ None → is_at (nat_cmp tid) e.0 ≡ false →
+      at tid held ≡ None
+  none_rest tid e held free h = sym (ap (λ (b : Bool). cond b (Some e.1) (at tid held)) h) ∙ free
+
+  once_by : (tid : ℕ) (new : T) (e : ℕ × T) (held : List (ℕ × T)) (o : Ordering) → nat_cmp tid e.0 ≡ o →
+      at tid (e ∷ held) ≡ None → AreKeyedOnce (e ∷ held) → (at tid held ≡ None → AreKeyedOnce (with_new tid new held)) →
+      AreKeyedOnce (placed tid new e held (with_new tid new held) o)
+  once_by tid new e held Less h free once rest = (free, once)
+  once_by tid new e held Equal h free once rest = once
+  once_by tid new e held Greater h free once rest =
+      let away : is_at (nat_cmp tid) e.0 ≡ false = ap is_eq h in
+      let n : e.0 ≢ tid = λ same. true≢false (sym (at_same numbers tid e.0 same) ∙ away) in
+      (lookup-insert_other numbers tid e.0 new held n ∙ once.0, rest (none_rest tid e held free away))
+
+  -- no identifier is there twice
+  pub once-with_new : (tid : ℕ) (new : T) (held : List (ℕ × T)) → at tid held ≡ None → AreKeyedOnce held →
+      AreKeyedOnce (with_new tid new held)
+  once-with_new tid new [] free once = (refl, tt)
+  once-with_new tid new (e ∷ held) free once =
+      once_by tid new e held (nat_cmp tid e.0) refl free once (λ none. once-with_new tid new held none once.1)

@@ -1,21 +1,19 @@
 -- The invariant of the programs between two of their steps: rules of the guarded machine lead to the views of all ends
 -- that were opened, and each datagram that was sent is one of its messages. That a message is there (`IsThere`) is said
 -- as for the turns of an end.
-use Rattle.tftp_promises.proofs.Common.{◌≢◌, ◌⊎◌, slice_get, rules, Contains, Spells, Mode, IsPrefixOf, wire_text}
-use Rattle.tftp_promises.proofs.Common.{path_of_name, SinkMeaning, SourceMeaning, Files, Source, Sink, EndState}
-use Rattle.tftp_promises.proofs.Common.{is_sender, is_client, outcome_of, TakesInTurn, StoreMeaning, Opening, EndKept}
-use Rattle.tftp_promises.proofs.Common.{Endpoint, Message, Network, OpenEnd, open_view, peer_of, EndView, IsShown}
-use Rattle.tftp_promises.proofs.Common.{requested, IsAmong, IsUnblamed, TransferState, at, SocketEvent, Run, LoopState}
-use Rattle.tftp_promises.proofs.Common.{LoopStep, State, moved_in, HadStore, StoreBegan, GaveSince, StoreOpened}
-use Rattle.tftp_promises.proofs.Common.{WasSentBefore, Moved, HasClosed, above, moved_at, opened_at, our_ports}
-use Rattle.tftp_promises.proofs.Common.{place_at, Programs, IsStranger, requests_at, ClientOf, AreDistinct, endpoint}
-use Rattle.tftp_promises.proofs.Common.{client_at, joined, Snapshot, ClientStage, Unasked, Has_asked}
-use Rattle.std.specs.Prelude.{ℕ, ◌≡◌, ◌<◌, true, false, List, [], ◌∷◌, ◌++◌, Option, Some, None}
-use Rattle.std.specs.Prelude.{Bool, Ok}
-use Rattle.tftp_wire.specs.declared.packet.Request.{Request as WireRequest}
+use Rattle.tftp_promises.proofs.Common.{List, ℕ, ◌≡◌, rules, Endpoint, [], ◌∙◌, ap, SourceMeaning, Some, StoreMeaning}
+use Rattle.tftp_promises.proofs.Common.{◌∷◌, SinkMeaning, false, true, None, ◌++◌, Programs, Bool, EndState, ◌⊎◌}
+use Rattle.tftp_promises.proofs.Common.{Contains, Files, SocketEvent, Option, ◌≢◌, LoopState, slice_get, TransferState}
+use Rattle.tftp_promises.proofs.Common.{LoopStep, joined, ClientOf, outcome_of, OpenEnd, is_sender, client_at, endpoint}
+use Rattle.tftp_promises.proofs.Common.{Snapshot, at, Run, State, IsStranger, Moved, open_view, Mode, Sink, Source}
+use Rattle.tftp_promises.proofs.Common.{Spells, Message, moved_in, EndView, requests_at, IsPrefixOf, ◌<◌, Ok, is_client}
+use Rattle.tftp_promises.proofs.Common.{IsShown, all_of, our_ports, WasSentBefore, Has_asked, place_at, moved_at}
+use Rattle.tftp_promises.proofs.Common.{peer_of, IsAmong, opened_at, WireRequest, ClientStage, HasClosed, GaveSince}
+use Rattle.tftp_promises.proofs.Common.{Network, EndKept, requested, IsUnblamed, slice_get-map, Opening, Unasked}
+use Rattle.tftp_promises.proofs.Common.{wire_text, path_of_name, AreDistinct, option_map, StoreOpened, TakesInTurn}
+use Rattle.tftp_promises.proofs.Common.{above, HadStore, WasCommitted, StoreBegan}
 pub use Rattle.tftp_rules.specs.EndShown.{IsThere, HasArrived}
-use Rattle.tftp_promises.specs.Drafts.{WasCommitted}
-use Rattle.tftp_promises.proofs.RunPlaces.{places}
+use Rattle.tftp_promises.proofs.Places.{places}
 use Rattle.tftp_promises.proofs.Texts.{pad_to}
 
 -- no identifier is there twice
@@ -69,8 +67,7 @@ length_of None = 0
 length_of (Some held) = held.end.role.length
 
 module _ {S F D G K : Type 0} {stores : StoreMeaning S D} {sources : SourceMeaning F} {inputs : SourceMeaning G}
-    {outputs : SinkMeaning K}
-    (programs : Programs stores sources inputs outputs) where
+    {outputs : SinkMeaning K} (programs : Programs stores sources inputs outputs) where
   -- the text of a client that sends: what moved in its run, padded by this byte
   abbrev pub client_text : ℕ → ClientOf programs → List ℕ
   client_text pad client = pad_to pad client.first.role.length (moved_in client.runs).bytes
@@ -85,8 +82,7 @@ module _ {S F D G K : Type 0} {stores : StoreMeaning S D} {sources : SourceMeani
     pub file : List ℕ
     pub client : (k : ℕ) (client : ClientOf programs) → slice_get programs.clients k ≡ Some client →
         a ≡ client_at client → wire_text mode file ≡ client_text pad client
-    pub transfer : ((k : ℕ) (client : ClientOf programs) →
-        slice_get programs.clients k ≡ Some client →
+    pub transfer : ((k : ℕ) (client : ClientOf programs) → slice_get programs.clients k ≡ Some client →
         a ≢ client_at client) →
         (opening : TransferState F D) → opened_at programs a programs.server.run ≡ Some opening →
         wire_text mode file ≡ place_text pad a
@@ -200,6 +196,12 @@ module _ {S F D G K : Type 0} {stores : StoreMeaning S D} {sources : SourceMeani
   HasStored pad snapshot x (Source source) = SendsMoved programs snapshot.run pad x source
   HasStored pad snapshot x (Sink draft) = StoresMoved programs snapshot.run x draft
 
+  -- so how it was opened
+  pub stored_opened : (pad : ℕ) (snapshot : Snapshot programs) (x : OpenEnd) (files : Files F D) →
+      HasStored pad snapshot x files → IsOpened programs snapshot.run x
+  stored_opened pad snapshot x (Source source) has = has.opened
+  stored_opened pad snapshot x (Sink draft) has = has.opened
+
   -- the end of a transfer, held or removed, which is at its port, or a stranger's
   pub record TransferKept (pad : ℕ) (views : List EndView) (messages : List Message) (snapshot : Snapshot programs)
       (port : ℕ) (transfer : TransferState F D) (a : Endpoint) : Type 0 where
@@ -264,6 +266,15 @@ module _ {S F D G K : Type 0} {stores : StoreMeaning S D} {sources : SourceMeani
     -- the view of an end at an endpoint is the only one there, so this determines it
     pub only : (view : EndView) → IsAmong views view →
         IsOfClient programs snapshot.clients view.address ⊎ IsOfTransfer snapshot view.address
+
+  -- the end of a client in the end state
+  pub client_kept : {pad : ℕ} (kept : IsKept pad (all_of programs)) (k : ℕ) (client : ClientOf programs) →
+      slice_get programs.clients k ≡ Some client →
+      ClientKept programs pad kept.views kept.messages client client.last client.files (moved_in client.runs)
+  client_kept kept k client found =
+      kept.clients k client (Has_asked client.last client.files client.noted (moved_in client.runs)) found
+      (slice_get-map (λ (c : ClientOf programs). Has_asked c.last c.files c.noted (moved_in c.runs)) programs.clients k
+      ∙ ap (option_map (λ (c : ClientOf programs). Has_asked c.last c.files c.noted (moved_in c.runs))) found)
 
   -- what has moved so far at the place of a transfer that was opened begins what moved there in all, at the same
   -- transfer

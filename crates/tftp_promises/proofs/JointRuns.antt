@@ -1,27 +1,24 @@
 -- From one order of all events to a joint run. The last steps are taken off one by one, from the
 -- end of the order: a step leaves when the oldest of its events after a wait does.
-use Rattle.tftp_promises.proofs.Common.{◌≡◌, ℕ, List, [], ◌∷◌, ◌++◌, append_assoc, length, map, set, Option, Some, None}
-use Rattle.tftp_promises.proofs.Common.{refl, sym, ap, ◌∙◌, subst, zero, suc, arith, inl, inr, ◌≢◌, slice_get}
-use Rattle.tftp_promises.proofs.Common.{option_map, Contains, AllByRecursion, cases_eq, append_cancel_right, same_Some}
-use Rattle.tftp_promises.proofs.Common.{slice_get-map, SinkMeaning, SourceMeaning, Files, StoreMeaning, Endpoint}
-use Rattle.tftp_promises.proofs.Common.{slice_get-set_same, slice_get-set_other, SocketEvent, Received, Sent, Run}
-use Rattle.tftp_promises.proofs.Common.{Start, Then, LoopState, LoopStep, State, begun, ClientDoes, ClientRun, Starts}
-use Rattle.tftp_promises.proofs.Common.{Goes_on, client_moves, moved_in, CanTake, WasSentBefore, Moved, Noted, Programs}
-use Rattle.tftp_promises.proofs.Common.{events_of, IsHonest, IsOrder, CanCome, ClientOf, DoesOwn, TakesOwn, endpoint}
-use Rattle.tftp_promises.proofs.Common.{ClientStage, Unasked, Has_asked, Snapshot, just_asked, client_did, all_of}
+use Rattle.tftp_promises.proofs.Common.{List, ℕ, ◌≡◌, rules, sym, Endpoint, refl, [], ◌∙◌, ap, SourceMeaning, Some}
+use Rattle.tftp_promises.proofs.Common.{subst, inl, StoreMeaning, inr, ◌∷◌, SinkMeaning, None, ◌++◌, Programs, Contains}
+use Rattle.tftp_promises.proofs.Common.{Files, SocketEvent, Option, arith, ◌≢◌, LoopState, length, slice_get, LoopStep}
+use Rattle.tftp_promises.proofs.Common.{Sent, ClientOf, Received, endpoint, Snapshot, same_Some, Run, State, suc, Moved}
+use Rattle.tftp_promises.proofs.Common.{Then, Start, moved_in, Noted, zero, cases_eq, all_of, WasSentBefore, Has_asked}
+use Rattle.tftp_promises.proofs.Common.{append_cancel_right, map, ClientDoes, events_of, append_assoc, set, TakesOwn}
+use Rattle.tftp_promises.proofs.Common.{ClientStage, Goes_on, ClientRun, Starts, begun, IsHonest, slice_get-map}
+use Rattle.tftp_promises.proofs.Common.{CanTake, slice_get-set_same, Unasked, client_did, AllByRecursion, CanCome}
+use Rattle.tftp_promises.proofs.Common.{IsOrder, option_map, client_moves, slice_get-set_other, DoesOwn, just_asked}
+use Rattle.tftp_promises.proofs.Common.{IsAt, Client_asks, Server_does, Client_does, All_begin, TracesAreJoint, Joint}
+use Rattle.tftp_promises.proofs.Common.{heads, noted_by, nothing_moved}
 use Rattle.std.proofs.lemmas.List.{length-set, length-map}
 use Rattle.std.proofs.lemmas.Option.{none-some}
-use Rattle.tftp_promises.specs.Joint.{Joint, All_begin, Server_does, Client_asks, Client_does}
-use Rattle.tftp_promises.specs.Joint.{TracesAreJoint}
-use Rattle.tftp_promises.specs.Moved.{nothing_moved}
-use Rattle.tftp_promises.specs.Order.{IsAt}
-use Rattle.tftp_promises.specs.Snapshots.{noted_by}
 use Rattle.tftp_promises.proofs.ClientTraces.{converse}
-use Rattle.tftp_promises.proofs.Orders.{events_own, events_other, noted_in, set_again, set_own, all_are, mapped}
-use Rattle.tftp_promises.proofs.SeenSteps.{Split, split, heads, no_more, step_back, split_in, oldest_in, past}
-use Rattle.tftp_promises.proofs.SeenSteps.{past_waits, before_waits, at_first, ends_with}
-use Rattle.tftp_promises.proofs.ServersRun.{server_noted}
-use Rattle.tftp_promises.proofs.StepEvents.{IsOther, IsQuiet, Silent, Notes, Rests, Acts, server_adds, client_adds}
+use Rattle.tftp_promises.proofs.Orders.{events_own, noted_in, set_again, set_own, all_are, mapped}
+use Rattle.tftp_promises.proofs.StepEvents.{Split, split, no_more, step_back, split_in, oldest_in, past, past_waits}
+use Rattle.tftp_promises.proofs.StepEvents.{before_waits, at_first, ends_with, IsOther, IsQuiet, Silent, Notes, Rests}
+use Rattle.tftp_promises.proofs.StepEvents.{Acts, server_adds, client_adds}
+use Rattle.tftp_promises.proofs.ClientsRun.{server_noted}
 
 module _ {S F D G K : Type 0} {stores : StoreMeaning S D} {sources : SourceMeaning F} {inputs : SourceMeaning G}
     {outputs : SinkMeaning K} (programs : Programs stores sources inputs outputs) where
@@ -52,8 +49,7 @@ module _ {S F D G K : Type 0} {stores : StoreMeaning S D} {sources : SourceMeani
     Not_yet : seen ≡ [] → ClientFits client seen Unasked
     Conversed_so : {s : State} {files : Files G K} {noted : List SocketEvent} (run : Conversed client s files) →
         TakesOwn programs.ip programs.others run → s.events ≡ noted ++ client.before → (waits : List SocketEvent) →
-        AllByRecursion IsQuiet waits →
-        waits ++ noted ≡ seen →
+        AllByRecursion IsQuiet waits → waits ++ noted ≡ seen →
         ClientFits client seen (Has_asked s files noted (moved_in run))
     Conversing : {s s' : State} {files files' : Files G K} {noted : List SocketEvent} (old_noted : List SocketEvent)
         (run : Conversed client s files) → TakesOwn programs.ip programs.others run →
@@ -156,11 +152,9 @@ module _ {S F D G K : Type 0} {stores : StoreMeaning S D} {sources : SourceMeani
   ]
 
   module _ (e : SocketEvent) (earlier : List Noted) (comes : CanCome programs 0 e earlier)
-      (clients : List (ClientStage G K))
-      (count : length clients ≡ length programs.clients)
+      (clients : List (ClientStage G K)) (count : length clients ≡ length programs.clients)
       (fit : (k : ℕ) (client : Client) → slice_get programs.clients k ≡ Some client →
-      ClientHas clients earlier k client)
-      (ih : (sn : Snapshot programs) → Fits sn earlier → Joint sn) where
+      ClientHas clients earlier k client) (ih : (sn : Snapshot programs) → Fits sn earlier → Joint sn) where
     -- the last step of the server has noted the event
     server_steps : {old new : LoopState S F D} {run : ServerRun old} {old_noted noted : List SocketEvent} →
         old.events ≡ old_noted ++ programs.server.start.events → (does : LoopStep stores sources old new) →
@@ -259,11 +253,7 @@ module _ {S F D G K : Type 0} {stores : StoreMeaning S D} {sources : SourceMeani
     stage_is stage = slice_get-set_same sn.clients k stage others.there.0 others.there.1
 
     at_ip : (port : ℕ) (a : Endpoint) → IsAt programs (suc k) port a → a ≡ endpoint client.ip port
-    at_ip port a at =
-        let own : option_map (λ (c : Client). c.ip) (slice_get programs.clients k) ≡ Some client.ip =
-        ap (λ (o : Option Client). option_map (λ (c : Client). c.ip) o) is_client in
-        at.2 ∙ ap (λ (ip : List ℕ). endpoint ip port) (sym (same_Some client.ip at.0
-        (sym own ∙ (sym (slice_get-map (λ (c : Client). c.ip) programs.clients k) ∙ at.1))))
+    at_ip port a at = search (rules, option_map, slice_get, endpoint, same_Some, slice_get-map)
 
     -- the client makes a step
     client_goes : {s s' : State} {files files' : Files G K} (noted : List SocketEvent) (moved : Moved) →
@@ -312,8 +302,7 @@ module _ {S F D G K : Type 0} {stores : StoreMeaning S D} {sources : SourceMeani
     client_last : {s s' : State} {files files' : Files G K} (run : Conversed client s files) →
         TakesOwn programs.ip programs.others run →
         (does : ClientDoes inputs outputs client.port s files s' files') → DoesOwn programs.ip programs.others does →
-        (noted : List SocketEvent) →
-        s'.events ≡ noted ++ client.before →
+        (noted : List SocketEvent) → s'.events ≡ noted ++ client.before →
         noted ≡ e ∷ events_of (suc k) earlier → ((older : List SocketEvent) → s.events ≡ older ++ client.before →
         older ≡ e ∷ events_of (suc k) earlier → Joint (At (Has_asked s files older (moved_in run)))) →
         Joint (At (Has_asked s' files' noted (client_moves does (moved_in run))))
@@ -366,15 +355,12 @@ module _ {S F D G K : Type 0} {stores : StoreMeaning S D} {sources : SourceMeani
 
   has_other : (clients : List (ClientStage G K)) (j : ℕ) (client : Client) (q : ℕ) (e : SocketEvent) (earlier : List Noted) →
       suc j ≢ q → ClientHas clients ((q, e) ∷ earlier) j client → ClientHas clients earlier j client
-  has_other clients j client q e earlier n has =
-      (has.0, has.1, subst (λ (es : List SocketEvent). ClientFits client es has.0) (events_other (suc j) q e earlier n) has.2)
+  has_other clients j client q e earlier n has = search rules
 
   server_other : (sn : Snapshot programs) (k : ℕ) (e : SocketEvent) (earlier : List Noted) →
       ServerFits (events_of 0 ((suc k, e) ∷ earlier)) sn.state sn.run sn.noted →
       ServerFits (events_of 0 earlier) sn.state sn.run sn.noted
-  server_other sn k e earlier fits =
-      subst (λ (es : List SocketEvent). ServerFits es sn.state sn.run sn.noted)
-      (events_other 0 (suc k) e earlier (let n : zero ≢ suc k = omega arith in n)) fits
+  server_other sn k e earlier fits = search rules
 
   not_suc : (j k : ℕ) → j ≢ k → suc j ≢ suc k
   not_suc j k n = omega (arith, n)
@@ -443,8 +429,7 @@ module _ {S F D G K : Type 0} {stores : StoreMeaning S D} {sources : SourceMeani
   joint_to (x ∷ earlier) honest sn fits =
       of_program x.0 x.1 earlier honest.0 (λ old f. joint_to earlier honest.1 old f) sn fits
 
-  pub all_joint : (order : List Noted) → IsOrder programs order →
-      IsHonest programs order →
+  pub all_joint : (order : List Noted) → IsOrder programs order → IsHonest programs order →
       ((k : ℕ) (client : Client) → slice_get programs.clients k ≡ Some client →
       TakesOwn programs.ip programs.others client.runs) → Joint (all_of programs)
   all_joint order is_order honest own =
@@ -464,5 +449,4 @@ module _ {S F D G K : Type 0} {stores : StoreMeaning S D} {sources : SourceMeani
 
 pub traces_joint : {S F D G K : Type 0} (stores : StoreMeaning S D) (sources : SourceMeaning F)
     (inputs : SourceMeaning G) (outputs : SinkMeaning K) → TracesAreJoint stores sources inputs outputs
-traces_joint stores sources inputs outputs programs order joined =
-    all_joint programs order joined.is_order joined.honest joined.own
+traces_joint stores sources inputs outputs programs order joined = search (rules, all_joint)

@@ -1,32 +1,28 @@
 -- A client that sends its request keeps the invariant.
-use Rattle.tftp_promises.proofs.Common.{◌≡◌, ℕ, Bool, true, false, List, [], ◌∷◌, ◌++◌, Some, None, refl, sym, ap, ◌∙◌}
-use Rattle.tftp_promises.proofs.Common.{subst, inl, inr, length, slice_get, Contains, true≢false, Contains-push}
-use Rattle.tftp_promises.proofs.Common.{same_Some, Spells, wire_text, SinkMeaning, SourceMeaning, Files, Source, Sink}
-use Rattle.tftp_promises.proofs.Common.{EndState, is_client, outcome_of, terms_of, request_of, StoreMeaning}
-use Rattle.tftp_promises.proofs.Common.{SocketEvent, Sent, State, begun, EndKept, Endpoint, Message, Request, OpenEnd}
-use Rattle.tftp_promises.proofs.Common.{open_view, message, said, EndView, IsShown, requested, spells_own, moved_in}
-use Rattle.tftp_promises.proofs.Common.{Moved, Programs, requests_at, ClientOf, client_at, endpoint, ClientOpens}
-use Rattle.tftp_promises.proofs.Common.{To_read, To_write, joined, Snapshot, Unasked, Has_asked, just_asked, client_did}
-use Rattle.tftp_wire.specs.Spelling.{IsValid, canonical}
-use Rattle.tftp_wire.specs.declared.packet.Request.{Request as WireRequest}
-use Rattle.tftp_file.specs.Source.{Gave_nothing}
-use Rattle.tftp_ends.specs.Opening.{getting, putting}
+use Rattle.tftp_promises.proofs.Common.{List, ℕ, ◌≡◌, rules, sym, Endpoint, refl, [], ◌∙◌, ap, SourceMeaning, Some}
+use Rattle.tftp_promises.proofs.Common.{subst, inl, StoreMeaning, inr, ◌∷◌, SinkMeaning, false, true, None, ◌++◌}
+use Rattle.tftp_promises.proofs.Common.{Programs, Bool, EndState, Contains, Files, SocketEvent, true≢false, length}
+use Rattle.tftp_promises.proofs.Common.{slice_get, Sent, joined, ClientOf, outcome_of, OpenEnd, client_at, endpoint}
+use Rattle.tftp_promises.proofs.Common.{Snapshot, same_Some, State, Moved, open_view, Sink, Source, Spells, Message}
+use Rattle.tftp_promises.proofs.Common.{moved_in, EndView, Contains-push, requests_at, is_client, IsShown, message}
+use Rattle.tftp_promises.proofs.Common.{Has_asked, said, WireRequest, ClientOpens, begun, EndKept, requested, To_read}
+use Rattle.tftp_promises.proofs.Common.{To_write, request_of, Unasked, client_did, terms_of, wire_text, Request}
+use Rattle.tftp_promises.proofs.Common.{just_asked, Gave_nothing, OpensToWrite, OpensToRead, IsValid, getting}
+use Rattle.tftp_promises.proofs.Common.{nothing_moved, slice_get-push_new, NoneAt, canonical}
+use Rattle.tftp_ends.specs.Opening.{putting}
 use Rattle.tftp_rules.specs.Machine.{Packet}
 use Rattle.tftp_rules.specs.Rules.{asking}
-use Rattle.tftp_rules.specs.Shows.{NoneAt, view_of}
+use Rattle.tftp_rules.specs.Shows.{view_of}
 use Rattle.tftp_rules.proofs.Actions.{asks}
 use Rattle.tftp_rules.proofs.EndOpenings.{nothing_held, no_text}
-use Rattle.tftp_rules.proofs.Indices.{slice_get-push_new}
 use Rattle.tftp_rules.proofs.UnblamedEnds.{opens_unblamed}
-use Rattle.tftp_promises.specs.Moved.{nothing_moved}
-use Rattle.tftp_promises.specs.Programs.{OpensToRead, OpensToWrite}
-use Rattle.tftp_promises.proofs.GivenSteps.{gave_first}
+use Rattle.tftp_promises.proofs.MovedSends.{gave_first}
 use Rattle.tftp_promises.proofs.Invariant.{client_text, IsThere, HasFile, IsKept, IsFreshBy}
 use Rattle.tftp_promises.proofs.KeptClients.{ClientTurns, client_keeps, transfer_apart}
-use Rattle.tftp_promises.proofs.KeptEvents.{only_one}
 use Rattle.tftp_promises.proofs.KeptViews.{viewed_before, among_push}
 use Rattle.tftp_promises.proofs.Places.{clients_there}
 use Rattle.tftp_promises.proofs.Texts.{pad_length}
+use Rattle.tftp_promises.proofs.Orders.{one_in}
 
 -- a client's end as it opens, with this file and this text
 abbrev opening : Endpoint → EndState → List ℕ → List ℕ → OpenEnd
@@ -78,30 +74,7 @@ module _ {S F D G K : Type 0} {stores : StoreMeaning S D} {sources : SourceMeani
   to_read : (first : EndState) (files : Files G K) (h : OpensToRead inputs outputs to first files) →
       Own (getting to h.name h.mode h.asked h.limit h.retries) (Sink h.sink) [] [] → Requests first files
   to_read first files h own =
-      let e = getting to h.name h.mode h.asked h.limit h.retries in
-      subst (λ (z : EndState). Requests z files) (sym h.is) (subst (λ (f : Files G K). Requests e f) (sym h.is_file)
-      (record {
-        write = false;
-        request = request_of h.name h.mode h.asked;
-        bytes = [];
-        text = [];
-        asked = wire_text h.mode [] ++ [];
-        valid = h.may.valid;
-        last_sent = refl;
-        last_sent_to = refl;
-        view = refl;
-        none = λ _. no_text h.mode;
-        kept =
-            record {
-              phase = (refl, h.may.options.askable, refl, refl, λ _. refl, λ c. absurd (true≢false (sym c)));
-              held_back = nothing_held h.mode;
-              committed = λ _. refl;
-            };
-        side = refl;
-        still = refl;
-        alone = refl;
-        has = own;
-      }))
+      search (rules, getting, false, request_of, wire_text, no_text, true≢false, nothing_held)
 
   to_write : (first : EndState) (files : Files G K) (h : OpensToWrite inputs outputs to first files)
       (bytes text : List ℕ) → h.length ≡ length text →
@@ -136,8 +109,7 @@ module _ {S F D G K : Type 0} {stores : StoreMeaning S D} {sources : SourceMeani
   -- its file, by the run
   pub requests : ClientOpens inputs outputs to client.first client.file → Requests client.first client.file
   requests (To_read h) =
-      to_read client.first client.file h
-      (record {
+      to_read client.first client.file h (record {
         receiver = refl;
         took = record {
           stored = refl;
@@ -197,9 +169,7 @@ module _ {S F D G K : Type 0} {stores : StoreMeaning S D} {sources : SourceMeani
     m = message a (joined programs).request_port (said (requested h.write h.request))
 
     spelled : Spells (requested h.write h.request) client.first.position.last_sent
-    spelled =
-        subst (λ (b : List ℕ). Spells (requested h.write h.request) b) (sym h.last_sent)
-        (spells_own (requested h.write h.request) h.valid)
+    spelled = search rules
 
     its_message : IsThere (kept.messages ++ m ∷ []) a client.first.position.last_sent_to client.first.position.last_sent
     its_message = (
@@ -208,9 +178,6 @@ module _ {S F D G K : Type 0} {stores : StoreMeaning S D} {sources : SourceMeani
       subst (λ (to : Endpoint). Contains (kept.messages ++ m ∷ []) (message a to (said (requested h.write h.request))))
           (sym h.last_sent_to) (Contains-push kept.messages m),
     )
-
-    its_view : EndView
-    its_view = view_of a [] (asking h.write h.request h.asked)
 
     shown_now : IsShown (joined programs) (kept.views ++ open_view x ∷ []) (kept.messages ++ m ∷ [])
     shown_now =
@@ -225,22 +192,8 @@ module _ {S F D G K : Type 0} {stores : StoreMeaning S D} {sources : SourceMeani
 
     one_event : (port : ℕ) (to : Endpoint) (bytes : List ℕ) →
         Contains (Sent client.port client.first.position.last_sent_to client.first.position.last_sent ∷ [])
-        (Sent port to bytes) →
-        IsThere (kept.messages ++ m ∷ []) (endpoint client.ip port) to bytes
-    one_event port to bytes i =
-        same_event client.port port client.first.position.last_sent_to to client.first.position.last_sent bytes
-        (only_one (Sent client.port client.first.position.last_sent_to client.first.position.last_sent)
-        (Sent port to bytes) i) its_message where
-          same_event : (p q : ℕ) (t to' : Endpoint) (b bytes' : List ℕ) → Sent p t b ≡ Sent q to' bytes' →
-              IsThere (kept.messages ++ m ∷ []) (endpoint client.ip p) t b →
-              IsThere (kept.messages ++ m ∷ []) (endpoint client.ip q) to' bytes'
-          same_event p q t to' b bytes' e there =
-              let port_is : p ≡ q = cc in
-              let to_is : t ≡ to' = cc in
-              let bytes_are : b ≡ bytes' = cc in
-              subst (λ (n : ℕ). IsThere (kept.messages ++ m ∷ []) (endpoint client.ip n) to' bytes') port_is
-              (subst (λ (d : Endpoint). IsThere (kept.messages ++ m ∷ []) (endpoint client.ip p) d bytes') to_is
-              (subst (λ (c : List ℕ). IsThere (kept.messages ++ m ∷ []) (endpoint client.ip p) t c) bytes_are there))
+        (Sent port to bytes) → IsThere (kept.messages ++ m ∷ []) (endpoint client.ip port) to bytes
+    one_event port to bytes i = search (rules, one_in, its_message, endpoint)
 
     turns : ClientTurns kept k client (begun client.backoff client.port client.reading client.first client.before) client.file
         (Sent client.port client.first.position.last_sent_to client.first.position.last_sent ∷ []) nothing_moved
@@ -274,8 +227,4 @@ module _ {S F D G K : Type 0} {stores : StoreMeaning S D} {sources : SourceMeani
     }
 
   pub asks_keeps : IsKept pad (client_did old k (just_asked client))
-  asks_keeps =
-      let h : Asks_with = requests programs pad k client found client.opens in
-      client_keeps kept fresh k client found Unasked unasked (begun client.backoff client.port client.reading client.first client.before)
-      client.file
-      (Sent client.port client.first.position.last_sent_to client.first.position.last_sent ∷ []) nothing_moved (turns h)
+  asks_keeps = search (rules, requests, client_keeps, begun, nothing_moved, turns)

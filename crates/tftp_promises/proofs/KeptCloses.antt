@@ -1,20 +1,16 @@
 -- A transfer that the server removes keeps the invariant: its end stays among the views.
-use Rattle.tftp_promises.proofs.Common.{◌≡◌, ℕ, List, [], ◌++◌, Some, refl, sym, ap, ◌∙◌, subst, inl, inr, cases_eq}
-use Rattle.tftp_promises.proofs.Common.{same_Some, SinkMeaning, SourceMeaning, StoreMeaning, TransferState, ServerState}
-use Rattle.tftp_promises.proofs.Common.{at, without, SocketEvent, LoopState, LoopStep, Endpoint, Message, IsShown}
-use Rattle.tftp_promises.proofs.Common.{numbers, HasClosed, place_at, Programs, joined, Snapshot, server_did}
-use Rattle.std.proofs.Common.{◌≢◌}
-use Rattle.std.proofs.lemmas.List.{append-nil}
+use Rattle.tftp_promises.proofs.Common.{List, ℕ, ◌≡◌, rules, sym, Endpoint, refl, [], ◌∙◌, ap, SourceMeaning, Some}
+use Rattle.tftp_promises.proofs.Common.{subst, inl, StoreMeaning, inr, SinkMeaning, ◌++◌, Programs, SocketEvent, ◌≢◌}
+use Rattle.tftp_promises.proofs.Common.{LoopState, TransferState, LoopStep, joined, Snapshot, same_Some, at}
+use Rattle.tftp_promises.proofs.Common.{ServerState, Message, cases_eq, server_did, IsShown, place_at, HasClosed}
+use Rattle.tftp_promises.proofs.Common.{numbers, without, append-nil, lookup-remove_other}
 use Rattle.tftp_loop.specs.Steps.{Closes, Transfer_closed}
-use Rattle.tftp_rules.proofs.Entries.{lookup-remove_other}
 use Rattle.tftp_promises.proofs.Identifiers.{at-without_cases, once-without}
-use Rattle.tftp_promises.proofs.Invariant.{AreKeyedOnce, HasTransferBy, TransferKept, ServerKept, IsKept}
-use Rattle.tftp_promises.proofs.Invariant.{same_transfer}
-use Rattle.tftp_promises.proofs.KeptEvents.{IsSilent}
-use Rattle.tftp_promises.proofs.KeptServer.{ServerTurns, server_keeps}
+use Rattle.tftp_promises.proofs.Invariant.{AreKeyedOnce, HasTransferBy, TransferKept, ServerKept, IsKept, same_transfer}
+use Rattle.tftp_promises.proofs.Orders.{IsSilent}
+use Rattle.tftp_promises.proofs.KeptServer.{ServerTurns, server_keeps, stored_after}
 use Rattle.tftp_promises.proofs.KeptViews.{arrived_still, viewed_still}
 use Rattle.tftp_promises.proofs.MovedSteps.{MovesNone}
-use Rattle.tftp_promises.proofs.ServerStays.{stored_after}
 
 module _ {S F D G K : Type 0} {stores : StoreMeaning S D} {sources : SourceMeaning F} {inputs : SourceMeaning G}
     {outputs : SinkMeaning K} {programs : Programs stores sources inputs outputs} {pad : ℕ} {old : Snapshot programs}
@@ -49,10 +45,7 @@ module _ {S F D G K : Type 0} {stores : StoreMeaning S D} {sources : SourceMeani
   -- a transfer that is held or was removed was held before, or removed
   still_held : (q : ℕ) (transfer : TransferState F D) → at q new.server.held ≡ Some transfer →
       (q ≢ port) × (at q old.state.server.held ≡ Some transfer)
-  still_held q transfer e =
-      let h =
-      at-without_cases port q transfer old.state.server.held kept.server.once
-      (ap (at q) (sym held) ∙ e) in (h.0, h.1)
+  still_held q transfer e = search (rules, at-without_cases, at, held)
 
   removed_at : (q : ℕ) (transfer : TransferState F D) → (q ≡ port) × (at q old.state.server.held ≡ Some transfer) →
       at port old.state.server.held ≡ Some transfer
@@ -60,9 +53,7 @@ module _ {S F D G K : Type 0} {stores : StoreMeaning S D} {sources : SourceMeani
 
   held_before : (q : ℕ) (transfer : TransferState F D) (a : Endpoint) → HasTransferBy now q transfer a →
       HasTransferBy old q transfer a
-  held_before q transfer a (inl e) = inl ((still_held q transfer e.0).1, e.1)
-  held_before q transfer a (inr (inl removes)) = inl (removes.0.1, removes.1)
-  held_before q transfer a (inr (inr closed)) = inr closed
+  held_before q transfer a h3 = search (rules, still_held)
 
   -- and is so after the step
   held_after : (q : ℕ) (transfer : TransferState F D) (a : Endpoint) → HasTransferBy old q transfer a →

@@ -1,46 +1,157 @@
--- Each step of a client keeps the invariant.
-use Rattle.tftp_promises.proofs.Common.{◌≡◌, ℕ, Bool, List, [], ◌∷◌, ◌++◌, Option, Some, None, refl, sym, ap, ◌∙◌}
-use Rattle.tftp_promises.proofs.Common.{subst, ◌≢◌, is_some, IsSome, Contains, Contains-append_left, Contains-push}
-use Rattle.tftp_promises.proofs.Common.{Spells, Error, one_meaning, IsPrefixOf, SinkMeaning, SourceMeaning, Files}
-use Rattle.tftp_promises.proofs.Common.{Outcome, EndState, outcome_of, KeepsFiles, Turn, after_turn, DatagramStep}
-use Rattle.tftp_promises.proofs.Common.{timeout_turn, StoreMeaning, Watch, SocketEvent, answered, Received, Sent}
-use Rattle.tftp_promises.proofs.Common.{Watched, Elapsed, Printed, Quiet, Slept, State, IsOpen, HandlesReceived}
-use Rattle.tftp_promises.proofs.Common.{MayElapse, received, wait_at, Answers, Loses, Stays, Elapses, Stands, Endpoint}
-use Rattle.tftp_promises.proofs.Common.{Elsewhere, OpenEnd, files_of, open_view, peer_of, slice_get-set_same}
-use Rattle.tftp_promises.proofs.Common.{ClientDoes, Receives_one, Reads_clock, Waits_until, Times_out, File_works}
-use Rattle.tftp_promises.proofs.Common.{Prints_line, client_moves, moved_in, CanTake, Moved, step_moves, our_ports}
-use Rattle.tftp_promises.proofs.Common.{Programs, IsError, DoesOwn, HandlesOwn, IsOtherAnswer, client_at, joined}
-use Rattle.tftp_promises.proofs.Common.{Snapshot, Has_asked, client_did}
-use Rattle.tftp_wire.specs.declared.packet.Packet.{Packet as WirePacket}
-use Rattle.tftp_sockets.specs.Trace.{QuietEvent}
-use Rattle.tftp_client.specs.Converses.{WorksOnFile, renewed, turned}
-use Rattle.tftp_client.specs.Converses.{waited, elapsed}
-use Rattle.tftp_rules.specs.EndKept.{IsAnswer, IsFromServer}
-use Rattle.tftp_rules.proofs.PhaseMoves.{same_ips}
-use Rattle.tftp_rules.proofs.EndTurns.{datagram_goes, timeout_goes}
-use Rattle.tftp_rules.proofs.UnblamedEnds.{timeout_unblamed}
-use Rattle.tftp_promises.specs.ClientRuns.{line_printed}
-use Rattle.tftp_promises.specs.Moved.{handling_moves}
-use Rattle.tftp_promises.proofs.Invariant.{HasArrived, IsKept, IsFreshBy, ClientKept, IsOfClient}
-use Rattle.tftp_promises.proofs.KeptAnswers.{answer_from_server}
-use Rattle.tftp_promises.proofs.KeptEvents.{IsSilent, added_by, added_none, answered_has, answered_sends}
-use Rattle.tftp_promises.proofs.KeptEvents.{elapsed_silent}
-use Rattle.tftp_promises.proofs.KeptEvents.{none_silent, printed_silent, unsent_silent}
-use Rattle.tftp_promises.proofs.KeptFiles.{StepsOver, step_over, file_same, file_kept, file_worked}
-use Rattle.tftp_promises.proofs.KeptTurns.{own, turn_keeps, stays_keeps}
-use Rattle.tftp_promises.proofs.KeptStrays.{arrives}
+-- What is known of a client's file, before a step and after it.
+use Rattle.tftp_promises.proofs.Common.{List, ℕ, ◌≡◌, rules, sym, Endpoint, refl, [], ◌∙◌, ap, SourceMeaning, Some}
+use Rattle.tftp_promises.proofs.Common.{subst, StoreMeaning, ◌∷◌, SinkMeaning, false, true, None, ◌++◌, Programs, Bool}
+use Rattle.tftp_promises.proofs.Common.{EndState, Contains, Files, SocketEvent, true≢false, ◌≢◌, length, Sent, joined}
+use Rattle.tftp_promises.proofs.Common.{ClientOf, outcome_of, OpenEnd, if◌then◌else◌, is_sender, client_at, Received}
+use Rattle.tftp_promises.proofs.Common.{Snapshot, Turn, State, Moved, open_view, Sink, Source, Spells, moved_in}
+use Rattle.tftp_promises.proofs.Common.{WirePacket, Contains-push, IsPrefixOf, after_turn, Elapsed, timeout_turn}
+use Rattle.tftp_promises.proofs.Common.{DatagramStep, our_ports, Has_asked, Receives_one, ClientDoes, peer_of, Action}
+use Rattle.tftp_promises.proofs.Common.{Watched, Printed, Quiet, answered, Role, Contains-append_left, Answers}
+use Rattle.tftp_promises.proofs.Common.{Elsewhere, Acts, end_after, Waits_until, Times_out, HandlesReceived, Loses}
+use Rattle.tftp_promises.proofs.Common.{Network, EndKept, is_some, Holding, File_works, Prints_line, Reads_clock}
+use Rattle.tftp_promises.proofs.Common.{Elapses, known_sink, known_source, files_of, CanTake, slice_get-set_same}
+use Rattle.tftp_promises.proofs.Common.{client_did, IsError, step_moves, Slept, MayElapse, Stays, client_moves, DoesOwn}
+use Rattle.tftp_promises.proofs.Common.{received, Stands, IsOpen, HandlesOwn, Watch, IsOtherAnswer, wait_at, same_ips}
+use Rattle.tftp_promises.proofs.Common.{turned, elapsed, waited, datagram_goes, IsAnswer, timeout_unblamed, KeepsFiles}
+use Rattle.tftp_promises.proofs.Common.{timeout_goes, line_printed, renewed, holding_of, IsFromServer, handling_moves}
+use Rattle.tftp_promises.proofs.Common.{QuietEvent}
+use Rattle.tftp_ends.specs.declared.side.Side.{Side}
+use Rattle.tftp_ends.specs.Files.{AreFilesOf}
+use Rattle.tftp_client.specs.Converses.{WorksOnFile}
+use Rattle.tftp_rules.specs.OpenEnds.{held_in}
+use Rattle.tftp_promises.proofs.MovedSends.{gave_none, step_gives, source_moves}
+use Rattle.tftp_promises.proofs.Invariant.{HasFile, GaveSo, TookSo, HasArrived, IsKept, IsFreshBy, ClientKept}
+use Rattle.tftp_promises.proofs.Invariant.{IsOfClient}
+use Rattle.tftp_promises.proofs.MovedStores.{sink_moves}
+use Rattle.tftp_promises.proofs.Texts.{pad_length, pad_to}
+use Rattle.tftp_promises.proofs.ClosedEnds.{answer_from_server}
+use Rattle.tftp_promises.proofs.Orders.{IsSilent, added_by, added_none, answered_has, answered_sends, elapsed_silent}
+use Rattle.tftp_promises.proofs.Orders.{none_silent, printed_silent, unsent_silent}
+use Rattle.tftp_promises.proofs.KeptClients.{own, turn_keeps, stays_keeps}
+use Rattle.tftp_promises.proofs.KeptViews.{arrives}
 use Rattle.tftp_promises.proofs.Places.{clients_there, near_server, stranger_no_client}
-use Rattle.tftp_promises.proofs.UnblamedTurns.{turn_unblamed}
+use Rattle.tftp_promises.proofs.NewPlaces.{turn_unblamed}
 
--- an open end has no outcome
-no_outcome : (o : Option Outcome) → (IsSome o → ⊥) → o ≡ None
-no_outcome None still = refl
-no_outcome (Some outcome) still = absurd (still refl)
+-- a step over the content of a client's file, and what is known of the file after it
+pub record StepsOver {S F D G K : Type 0} {stores : StoreMeaning S D} {sources : SourceMeaning F}
+    {inputs : SourceMeaning G} {outputs : SinkMeaning K} (programs : Programs stores sources inputs outputs) (pad : ℕ)
+    (client : ClientOf programs) (x : OpenEnd) (from : Endpoint) (bytes : List ℕ) (turn : Turn) (files' : Files G K)
+    (moved : Moved) : Type 0 where
+  pub content : Files (List ℕ) Holding
+  pub steps : DatagramStep known_source known_sink from bytes x.state (files_of x) turn content
+  pub has : HasFile programs pad client (end_after x turn content) files' moved
+
+module _ {G K : Type 0} (inputs : SourceMeaning G) (outputs : SinkMeaning K) where
+  -- a step leaves a source or a sink
+  acts_fit : (side : Side) (action : Action) (from : Endpoint) (bytes : List ℕ) (e : EndState) (files : Files G K)
+      (turn : Turn) (files' : Files G K) →
+      Acts inputs outputs action from bytes e files turn files' → AreFilesOf side files → AreFilesOf side files'
+  acts_fit side action from bytes e files turn files' h fits = search rules
+
+  pub step_fits : (side : Side) (from : Endpoint) (bytes : List ℕ) (e : EndState) (files : Files G K) (turn : Turn)
+      (files' : Files G K) →
+      DatagramStep inputs outputs from bytes e files turn files' → AreFilesOf side files → AreFilesOf side files'
+  step_fits side from bytes e files turn files' h fits = search (rules, acts_fit)
+
+-- the files of an end
+pub source_is : (x : OpenEnd) → is_sender x.state.role.side ≡ true → Source x.left ≡ files_of x
+source_is x sender = ap (λ (b : Bool). if b then Source x.left else Sink (holding_of x)) (sym sender)
+
+pub sink_is : (x : OpenEnd) → is_sender x.state.role.side ≡ false → Sink (holding_of x) ≡ files_of x
+sink_is x receiver = ap (λ (b : Bool). if b then Source x.left else Sink (holding_of x)) (sym receiver)
+
+-- after a turn that leaves its file
+module _ (x : OpenEnd) (turn : Turn)
+    (still : outcome_of turn.position.phase ≡ None → outcome_of x.state.position.phase ≡ None) where
+  -- a receiver holds what it held
+  pub held_same : is_sender x.state.role.side ≡ false → holding_of (end_after x turn (files_of x)) ≡ holding_of x
+  held_same receiver = ap (λ (f : Files (List ℕ) Holding). held_in f (holding_of x)) (sym (sink_is x receiver))
+
+  -- what a sender gave, and what a receiver stored
+  pub gave_same : is_sender x.state.role.side ≡ true → (moved : Moved) → GaveSo x moved →
+      GaveSo (end_after x turn (files_of x)) moved
+  gave_same sender moved h = search rules
+
+  pub took_same : is_sender x.state.role.side ≡ false → (moved : Moved) → TookSo x moved →
+      TookSo (end_after x turn (files_of x)) moved
+  took_same receiver moved h = search rules
+
+module _ {S F D G K : Type 0} {stores : StoreMeaning S D} {sources : SourceMeaning F} {inputs : SourceMeaning G}
+    {outputs : SinkMeaning K} (programs : Programs stores sources inputs outputs) (client : ClientOf programs)
+    (x : OpenEnd) where
+  abbrev Has : ℕ → OpenEnd → Files G K → Moved → Type 0
+  Has pad y files moved = HasFile programs pad client y files moved
+
+  -- ---- a step
+  module _ (network : Network) (kept : EndKept network x) (still : outcome_of x.state.position.phase ≡ None)
+      (from : Endpoint) (bytes : List ℕ) (turn : Turn) where
+    moved_step : (pad : ℕ) (files files' : Files G K) (moved : Moved) → Has pad x files moved →
+        (step : DatagramStep inputs outputs from bytes x.state files turn files') →
+        IsPrefixOf (step_moves inputs outputs from bytes x.state files turn files' step moved).bytes
+        (moved_in client.runs).bytes → AreFilesOf x.state.role.side files' →
+        StepsOver programs pad client x from bytes turn files'
+        (step_moves inputs outputs from bytes x.state files turn files' step moved)
+    moved_step pad (Source source) (Source source') moved h step told fits =
+        let text : x.text ≡ pad_to pad x.state.role.length (moved_in client.runs).bytes =
+        h.text ∙ ap (λ (r : Role). pad_to pad r.length (moved_in client.runs).bytes) (sym h.role) in
+        let m =
+        source_moves inputs outputs x from source source' turn moved h.gave still pad (moved_in client.runs).bytes text
+        network kept h.sender bytes step told in
+        let measured : length x.text ≡ x.state.role.length =
+        ap (λ (t : List ℕ). length t) text ∙ pad_length pad x.state.role.length (moved_in client.runs).bytes in
+        let since =
+        step_gives inputs outputs x from h.given.first source source' turn moved h.gave h.given.since still measured
+        network kept h.sender bytes step in
+        search rules
+    moved_step pad (Sink sink) (Sink sink') moved h step told fits =
+        let m = sink_moves inputs outputs from turn x moved h.took sink sink' bytes step in
+        record {
+          content = Sink m.after;
+          steps =
+              subst (λ (f : Files (List ℕ) Holding). DatagramStep known_source known_sink from bytes x.state f turn
+              (Sink m.after)) (sink_is x h.receiver) m.steps;
+          has = record { receiver = h.receiver; took = m.took };
+        }
+    moved_step pad (Source source) (Sink sink') moved h step told fits = absurd (true≢false (sym h.sender ∙ fits))
+    moved_step pad (Sink sink) (Source source') moved h step told fits = absurd (true≢false (sym fits ∙ h.receiver))
+
+    -- its step
+    pub step_over : (pad : ℕ) (files files' : Files G K) (moved : Moved) → Has pad x files moved →
+        (step : DatagramStep inputs outputs from bytes x.state files turn files') →
+        IsPrefixOf (step_moves inputs outputs from bytes x.state files turn files' step moved).bytes
+        (moved_in client.runs).bytes → StepsOver programs pad client x from bytes turn files'
+        (step_moves inputs outputs from bytes x.state files turn files' step moved)
+    step_over pad (Source source) files' moved h step told = search (rules, moved_step, step_fits)
+    step_over pad (Sink sink) files' moved h step told =
+        moved_step pad (Sink sink) files' moved h step told
+        (step_fits inputs outputs x.state.role.side from bytes x.state (Sink sink) turn files' step h.receiver)
+
+  -- ---- the file of an end that makes no turn by it
+  pub file_same : (pad : ℕ) (turn : Turn) (files : Files G K) (moved : Moved) →
+      (outcome_of turn.position.phase ≡ None → outcome_of x.state.position.phase ≡ None) → Has pad x files moved →
+      Has pad (end_after x turn (files_of x)) files moved
+  file_same pad turn files moved still h = search rules
+
+  -- its source gave no bytes
+  none_given : (pad : ℕ) (source source' : G) (moved : Moved) → Has pad x (Source source) moved →
+      inputs.gives source [] source' → Has pad x (Source source') moved
+  none_given pad source source' moved h none = search (rules, gave_none)
+
+  -- after a datagram that was lost
+  pub file_kept : (pad : ℕ) (files files' : Files G K) (moved : Moved) → Has pad x files moved →
+      KeepsFiles inputs outputs files files' → Has pad x files' moved
+  file_kept pad files files' moved h keeps = search (rules, none_given)
+
+  -- after its own work
+  pub file_worked : (pad : ℕ) (files files' : Files G K) (moved : Moved) → Has pad x files moved →
+      WorksOnFile inputs outputs files files' → Has pad x files' moved
+  file_worked pad files files' moved h works = search (rules, none_given)
+
+-- Each step of a client keeps the invariant.
 
 -- an answer is no ERROR
 no_error_of : (p : WirePacket) (bytes : List ℕ) → Spells p bytes → IsAnswer p → IsError bytes → ⊥
-no_error_of p bytes spells answer error =
-    subst IsAnswer (one_meaning p (Error error.0 error.1) bytes spells error.2) answer
+no_error_of p bytes spells answer error = search rules
 
 module _ {S F D G K : Type 0} {stores : StoreMeaning S D} {sources : SourceMeaning F} {inputs : SourceMeaning G}
     {outputs : SinkMeaning K} {programs : Programs stores sources inputs outputs} {pad : ℕ} {old : Snapshot programs}
@@ -59,16 +170,11 @@ module _ {S F D G K : Type 0} {stores : StoreMeaning S D} {sources : SourceMeani
 
   -- its end is among all that is shown
   stands : Stands (joined programs) kept.shown.0 kept.views kept.messages o.viewed.index (open_view x)
-  stands =
-      record {
-        shown = kept.shown.1;
-        viewed = o.viewed.viewed;
-      }
+  stands = search rules
 
   -- an open one has no outcome
   still_open : IsOpen s.end → outcome_of x.state.position.phase ≡ None
-  still_open still =
-      ap (λ (e : EndState). outcome_of e.position.phase) o.state ∙ no_outcome (outcome_of s.end.position.phase) still
+  still_open still = search rules
 
   -- what the client then has
   abbrev Then_keeps : State → Files G K → List SocketEvent → Moved → Type 0
@@ -81,8 +187,7 @@ module _ {S F D G K : Type 0} {stores : StoreMeaning S D} {sources : SourceMeani
       IsPrefixOf moved'.bytes (moved_in client.runs).bytes
   told_now s' files' noted' moved' now =
       now.gave k client s' files' noted' moved' found
-      (slice_get-set_same old.clients k (Has_asked s' files' noted' moved') (Has_asked s files noted moved)
-      is_stage)
+      (slice_get-set_same old.clients k (Has_asked s' files' noted' moved') (Has_asked s files noted moved) is_stage)
 
   -- ---- a datagram
   module _ (from : Endpoint) (bytes : List ℕ) (watch : Watch) where
@@ -113,8 +218,7 @@ module _ {S F D G K : Type 0} {stores : StoreMeaning S D} {sources : SourceMeani
         IsOpen s.end → (step : DatagramStep inputs outputs from bytes s.end files turn files') →
         (peer_of s.end.position.phase ≡ None → IsOtherAnswer programs.ip programs.others from bytes → ⊥) →
         IsPrefixOf (step_moves inputs outputs from bytes s.end files turn files' step moved).bytes
-        (moved_in client.runs).bytes →
-        answered client.port turn.reply (receipt ++ s.events) ≡ added ++ s.events →
+        (moved_in client.runs).bytes → answered client.port turn.reply (receipt ++ s.events) ≡ added ++ s.events →
         Then_keeps (turned client.port turn (received client.port from bytes watch s)) files' added
         (step_moves inputs outputs from bytes s.end files turn files' step moved)
     answers arrived spelled turn files' added still step takes_own told events =
@@ -240,8 +344,7 @@ module _ {S F D G K : Type 0} {stores : StoreMeaning S D} {sources : SourceMeani
       (handled : HandlesReceived inputs outputs client.port from bytes (received client.port from bytes watch s) files
       next files') → HandlesOwn programs.ip programs.others handled →
       IsPrefixOf (handling_moves handled moved).bytes (moved_in client.runs).bytes →
-      next.events ≡ added ++ s.events → CanTake old client.ip added →
-      IsKept pad (client_did old k
+      next.events ≡ added ++ s.events → CanTake old client.ip added → IsKept pad (client_did old k
       (Has_asked next files' (added ++ noted) (handling_moves handled moved)))
   handles from bytes watch next files' added (Answers {turn} still step) takes_own told events take =
       let receipt = Watched watch ∷ Received client.port from bytes ∷ Quiet (Slept (wait_at s)) ∷ [] in
@@ -265,8 +368,7 @@ module _ {S F D G K : Type 0} {stores : StoreMeaning S D} {sources : SourceMeani
       s'.events ≡ added ++ s.events → CanTake old client.ip added →
       IsKept pad (client_did old k (Has_asked s' files' (added ++ noted) (client_moves does moved)))
   does_keeps s' files' added (Receives_one {from = from} {bytes = bytes} {watch = watch} may later handled) takes_own now
-      events take =
-      handles from bytes watch s' files' added handled takes_own
+      events take = handles from bytes watch s' files' added handled takes_own
       (told_now kept fresh c s' files' (added ++ noted) (handling_moves handled moved) now) events take
   does_keeps s' files' added (Reads_clock progress {watch} later) takes_own now events take =
       reads kept fresh c progress watch added events

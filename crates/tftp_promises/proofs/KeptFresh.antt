@@ -1,17 +1,103 @@
--- Ports that are fresh after a step were so before it.
-use Rattle.tftp_promises.proofs.Common.{◌≡◌, ℕ, suc, zero, ◌+◌, List, [], ◌∷◌, ◌++◌, length, set, Some, refl, sym, ap}
-use Rattle.tftp_promises.proofs.Common.{subst, ◌∙◌, arith, inl, inr, rules, slice_get, Contains, Contains-append_left}
-use Rattle.tftp_promises.proofs.Common.{Contains-append_right, Contains-append_cases, cases_eq, same_Some}
-use Rattle.tftp_promises.proofs.Common.{slice_get-map, IsPrefixOf, SinkMeaning, SourceMeaning, Files, StoreMeaning}
-use Rattle.tftp_promises.proofs.Common.{SocketEvent, LoopState, LoopStep, State, Endpoint, slice_get-set_same}
-use Rattle.tftp_promises.proofs.Common.{slice_get-set_other, ClientDoes, client_moves, moved_in, Moved, ArePortsFresh}
-use Rattle.tftp_promises.proofs.Common.{moved_at, our_ports, ours_by, Programs, ClientOf, AreDistinct, Snapshot}
-use Rattle.tftp_promises.proofs.Common.{ClientStage, Unasked, Has_asked, server_did, client_did, all_of}
-use Rattle.tftp_promises.proofs.RunPlaces.{placed_by, places}
-use Rattle.tftp_promises.proofs.Invariant.{IsFreshBy, IsToldAt}
+-- Ports of which the server uses none twice are fresh: among them are those of its clients' transfers.
+use Rattle.tftp_promises.proofs.Common.{List, ℕ, ◌≡◌, rules, sym, Endpoint, refl, [], ◌∙◌, ap, SourceMeaning, Some}
+use Rattle.tftp_promises.proofs.Common.{subst, inl, StoreMeaning, inr, ◌∷◌, SinkMeaning, false, true, None, ◌++◌}
+use Rattle.tftp_promises.proofs.Common.{Programs, Bool, ◌⊎◌, Contains, Files, SocketEvent, Option, arith, LoopState}
+use Rattle.tftp_promises.proofs.Common.{length, slice_get, TransferState, LoopStep, joined, ClientOf, if◌then◌else◌}
+use Rattle.tftp_promises.proofs.Common.{client_at, Snapshot, same_Some, at, Run, State, suc, IsStranger, Moved, Then}
+use Rattle.tftp_promises.proofs.Common.{Start, moved_in, Noted, zero, Contains-push, IsPrefixOf, cases_eq, ◌+◌}
+use Rattle.tftp_promises.proofs.Common.{server_did, all_of, our_ports, WasSentBefore, Has_asked, map, moved_at}
+use Rattle.tftp_promises.proofs.Common.{ClientDoes, AreJoined, Contains-append_cases, Request_answered}
+use Rattle.tftp_promises.proofs.Common.{Contains-append_left, set, ClientStage, Contains-append_right, ArePortsFresh}
+use Rattle.tftp_promises.proofs.Common.{is_ours, opened_ports, slice_get-map, CanTake, slice_get-set_same, Unasked}
+use Rattle.tftp_promises.proofs.Common.{client_did, option_to_list, AreDistinct, client_moves, slice_get-set_other}
+use Rattle.tftp_promises.proofs.Common.{just_asked, opened_by, Client_asks, slice_get_read, Server_does, Client_does}
+use Rattle.tftp_promises.proofs.Common.{ours_by, All_begin, TracesAreJoint, Joint}
+use Rattle.tftp_rules.proofs.Refines.{shown_start}
+use Rattle.tftp_promises.specs.Openings.{DistinctPortsAreFresh}
+use Rattle.tftp_promises.specs.Snapshots.{nothing_done}
+use Rattle.tftp_promises.proofs.NewPlaces.{ours_among, below_above, not_again}
+use Rattle.tftp_promises.proofs.Places.{placed_by, places}
+use Rattle.tftp_promises.proofs.Invariant.{IsFreshBy, IsToldAt, IsThere, HasTransferBy, StageKept, IsKept}
 use Rattle.tftp_promises.proofs.MovedSteps.{client_more, opens_none, server_more}
-use Rattle.tftp_promises.proofs.NewPlaces.{below_above, not_again}
 use Rattle.tftp_promises.proofs.Texts.{begins_itself, begins_on}
+use Rattle.tftp_promises.proofs.Orders.{nothing_in}
+use Rattle.tftp_promises.proofs.KeptAsks.{asks_keeps}
+use Rattle.tftp_promises.proofs.KeptDoes.{does_keeps}
+
+-- no port is there twice, element by element
+abbrev NoneTwice : List ℕ → Type 0
+NoneTwice [] = Unit {0}
+NoneTwice (x ∷ xs) = (Contains xs x → ⊥) × NoneTwice xs
+
+none_twice : (xs : List ℕ) → AreDistinct xs → NoneTwice xs
+none_twice [] d = tt
+none_twice (x ∷ xs) d = (
+  λ c.
+      let there : slice_get xs c.0 ≡ Some x = slice_get_read xs (length xs) c.0 x refl c.1 (sym c.2) in
+      let one : zero ≡ suc c.0 = d zero (suc c.0) x refl there in
+      omega (arith, one),
+  none_twice xs (λ j k port e f. let l = d (suc j) (suc k) port e f in omega (arith, l)),
+)
+
+found_in : (xs : List ℕ) (k x : ℕ) → slice_get xs k ≡ Some x → Contains xs x
+found_in [] k x e = absurd (let f : None ≡ Some x = e in cc)
+found_in (y ∷ ys) zero x e =
+    subst (λ (z : ℕ). Contains (y ∷ ys) z) (same_Some y x e) (Contains-append_left (y ∷ []) ys y (Contains-push [] y))
+found_in (y ∷ ys) (suc k) x e = Contains-append_right (y ∷ []) ys x (found_in ys k x e)
+
+distinct : (xs : List ℕ) → NoneTwice xs → AreDistinct xs
+distinct [] n j k port e f = absurd (let g : None ≡ Some port = e in cc)
+distinct (x ∷ xs) n zero zero port e f = refl
+distinct (x ∷ xs) n zero (suc k) port e f = absurd (n.0 (found_in xs k x (f ∙ sym e)))
+distinct (x ∷ xs) n (suc j) zero port e f = absurd (n.0 (found_in xs j x (e ∙ sym f)))
+distinct (x ∷ xs) n (suc j) (suc k) port e f = ap suc (distinct xs n.1 j k port e f)
+
+module _ {S F D G K : Type 0} {stores : StoreMeaning S D} {sources : SourceMeaning F} {inputs : SourceMeaning G}
+    {outputs : SinkMeaning K} (programs : Programs stores sources inputs outputs) where
+  answered_twice : (b : Bool) (o : Option ℕ) (opened ours : List ℕ) →
+      ((port : ℕ) → Contains ours port → Contains opened port) → (NoneTwice opened → NoneTwice ours) →
+      NoneTwice (option_to_list o ++ opened) → NoneTwice ((if b then option_to_list o else []) ++ ours)
+  answered_twice true None opened ours among rest n = rest n
+  answered_twice true (Some tid) opened ours among rest n = (λ c. n.0 (among tid c), rest n.1)
+  answered_twice false None opened ours among rest n = rest n
+  answered_twice false (Some tid) opened ours among rest n = rest n.1
+
+  step_twice : {first old new : LoopState S F D} (run : Run (LoopStep stores sources) first old)
+      (does : LoopStep stores sources old new) → (NoneTwice (opened_ports run) → NoneTwice (our_ports programs run)) →
+      NoneTwice (opened_by does ++ opened_ports run) → NoneTwice (ours_by programs does ++ our_ports programs run)
+  step_twice run (Request_answered answers) rest n =
+      answered_twice (is_ours programs answers.from) answers.left.opened.tid (opened_ports run) (our_ports programs run)
+      (λ port c. ours_among programs run port c) rest n
+  step_twice run does rest n = rest n
+
+  ours_twice : {first last : LoopState S F D} (run : Run (LoopStep stores sources) first last) →
+      NoneTwice (opened_ports run) → NoneTwice (our_ports programs run)
+  ours_twice Start n = tt
+  ours_twice (Then run does) n = step_twice run does (λ m. ours_twice run m) n
+
+  pub fresh_ports : DistinctPortsAreFresh programs
+  fresh_ports all =
+      let first = programs.port in
+      let opened = opened_ports programs.server.run in
+      let ours = our_ports programs programs.server.run in
+      let n = none_twice (first ∷ opened) all.server in
+      let among : (port : ℕ) → Contains (first ∷ ours) port → Contains (first ∷ opened) port =
+      λ port c. elim (Contains-append_cases (first ∷ []) ours port c) [
+        | inl h ↦ Contains-append_left (first ∷ []) opened port h
+        | inr h ↦ Contains-append_right (first ∷ []) opened port (ours_among programs programs.server.run port h)
+      ] in
+      record {
+        server =
+            distinct (first ∷ ours) (
+              λ c. n.0 (ours_among programs programs.server.run first c),
+              ours_twice programs.server.run n.1,
+            );
+        clients = all.clients;
+        apart = λ k port x found c. all.apart k port x found (among port c);
+        others = λ port c. all.others port (among port c);
+      }
+
+-- Ports that are fresh after a step were so before it.
 
 -- an element after these
 get_after : (xs ys : List ℕ) (j : ℕ) → slice_get (xs ++ ys) (length xs + j) ≡ slice_get ys j
@@ -44,8 +130,7 @@ contains_after p xs ys port i = elim (Contains-append_cases (p ∷ []) ys port i
 ]
 
 module _ {S F D G K : Type 0} {stores : StoreMeaning S D} {sources : SourceMeaning F} {inputs : SourceMeaning G}
-    {outputs : SinkMeaning K}
-    (programs : Programs stores sources inputs outputs) where
+    {outputs : SinkMeaning K} (programs : Programs stores sources inputs outputs) where
   -- before a step of the server
   told_before : (old : Snapshot programs) (new : LoopState S F D) (does : LoopStep stores sources old.state new)
       (added : List SocketEvent) → IsFreshBy (server_did old does added) → (a : Endpoint) →
@@ -56,8 +141,7 @@ module _ {S F D G K : Type 0} {stores : StoreMeaning S D} {sources : SourceMeani
       search (rules, begins_on, server_more)
 
   pub fresh_before_server : (old : Snapshot programs) (new : LoopState S F D) (does : LoopStep stores sources old.state new)
-      (added : List SocketEvent) →
-      IsFreshBy (server_did old does added) → IsFreshBy old
+      (added : List SocketEvent) → IsFreshBy (server_did old does added) → IsFreshBy old
   fresh_before_server old new does added h = record {
     server = distinct_after _ _ _ h.server;
     below = λ port i. h.below port (Contains-append_right (ours_by programs does) (our_ports programs old.run) port i);
@@ -107,8 +191,7 @@ module _ {S F D G K : Type 0} {stores : StoreMeaning S D} {sources : SourceMeani
 
   -- and one that had asked goes on
   pub asked_had : (old : Snapshot programs) (k : ℕ) (client : Client) (s s' : State) (files files' : Files G K)
-      (noted : List SocketEvent) (moved : Moved) →
-      slice_get old.clients k ≡ Some (Has_asked s files noted moved) →
+      (noted : List SocketEvent) (moved : Moved) → slice_get old.clients k ≡ Some (Has_asked s files noted moved) →
       (does : ClientDoes inputs outputs client.port s files s' files') (added : List SocketEvent) →
       HadMoved old k (Has_asked s' files' (added ++ noted) (client_moves does moved))
   asked_had old k client s s' files files' noted moved is_stage does added t fs es m at =
@@ -143,3 +226,83 @@ module _ {S F D G K : Type 0} {stores : StoreMeaning S D} {sources : SourceMeani
     told = λ a c. record { bytes = begins_itself (moved_at programs a programs.server.run).bytes; opened = refl };
     gave = search (rules, slice_get-map, last_moved, same_Some, begins_itself);
   }
+
+-- The invariant holds before any program has done anything.
+
+-- no client has asked
+unasked_at : {C G K : Type 0} (clients : List C) (k : ℕ) (stage : ClientStage G K) →
+    slice_get (map (λ (client : C). Unasked) clients) k ≡ Some stage → Unasked ≡ stage
+unasked_at [] k stage e = absurd (let f : None ≡ Some stage = e in cc)
+unasked_at (c ∷ clients) zero stage e = let f : Some Unasked ≡ Some stage = e in cc
+unasked_at (c ∷ clients) (suc k) stage e = unasked_at clients k stage e
+
+module _ {S F D G K : Type 0} {stores : StoreMeaning S D} {sources : SourceMeaning F} {inputs : SourceMeaning G}
+    {outputs : SinkMeaning K} (programs : Programs stores sources inputs outputs) where
+  -- nothing was sent
+  nothing_sent : (from to : Endpoint) (bytes : List ℕ) → WasSentBefore (nothing_done programs) from to bytes →
+      IsThere [] from to bytes ⊎ IsStranger programs to
+  nothing_sent from to bytes h3 = search (rules, nothing_in, unasked_at)
+
+  -- no transfer is held, and none was removed
+  nothing_held : (port : ℕ) (transfer : TransferState F D) → at port programs.server.start.server.held ≡ Some transfer →
+      ⊥
+  nothing_held port transfer e = let f : None ≡ Some transfer = ap (at port) (sym programs.server.empty) ∙ e in cc
+
+  no_transfer : (port : ℕ) (transfer : TransferState F D) (a : Endpoint) →
+      HasTransferBy (nothing_done programs) port transfer a → ⊥
+  no_transfer port transfer a (inl e) = nothing_held port transfer e.0
+  no_transfer port transfer a (inr closed) = closed
+
+  pub kept_at_first : (pad : ℕ) → IsKept pad (nothing_done programs)
+  kept_at_first pad = record {
+    views = [];
+    messages = [];
+    shown = shown_start (joined programs);
+    sent = nothing_sent;
+    server = search rules;
+    clients =
+        λ k client stage found e. subst (λ (s : ClientStage G K). StageKept programs pad [] [] client s) (unasked_at
+        programs.clients k stage e) tt;
+    transfers = λ port transfer a h. absurd (no_transfer port transfer a h);
+    only = λ view among. absurd (let f : None ≡ Some view = among.1 in cc);
+  }
+
+-- The invariant holds of every joint run, if the steps of the server keep it.
+
+module _ {S F D G K : Type 0} {stores : StoreMeaning S D} {sources : SourceMeaning F} {inputs : SourceMeaning G}
+    {outputs : SinkMeaning K} where
+  -- each step of the server keeps the invariant
+  abbrev pub ServerStepsKeep : (programs : Programs stores sources inputs outputs) → ℕ → Type 0
+  ServerStepsKeep programs pad =
+      (old : Snapshot programs) (new : LoopState S F D) (does : LoopStep stores sources old.state new)
+      (added : List SocketEvent) → IsKept pad old → IsFreshBy (server_did old does added) →
+      new.events ≡ added ++ old.state.events → CanTake old programs.ip added → IsKept pad (server_did old does added)
+
+  module _ (programs : Programs stores sources inputs outputs) (pad : ℕ)
+      (server_keeps : ServerStepsKeep programs pad) where
+    pub joint_kept : (snapshot : Snapshot programs) → Joint snapshot → IsFreshBy snapshot → IsKept pad snapshot
+    joint_kept snapshot All_begin fresh = kept_at_first programs pad
+    joint_kept snapshot (Server_does {old} {new} joint does added events take) fresh =
+        server_keeps old new does added (joint_kept old joint (fresh_before_server programs old new does added fresh))
+        fresh events take
+    joint_kept snapshot (Client_asks {old} joint k client found unasked) fresh =
+        let before =
+        fresh_before_client programs old k (just_asked client) (unasked_had programs old k (just_asked client) unasked)
+        fresh in
+        asks_keeps (joint_kept old joint before) before k client found unasked
+    joint_kept snapshot (Client_does {old} {s} {s'} {files} {files'} {noted} {moved} joint k client found is_stage does
+        own added events take) fresh =
+        let had = asked_had programs old k client s s' files files' noted moved is_stage does added in
+        let before =
+        fresh_before_client programs old k (Has_asked s' files' (added ++ noted) (client_moves does moved)) had fresh in
+        does_keeps (joint_kept old joint before) before {a = client_at client} (search) s' files' added does own fresh
+        events take
+
+-- the invariant holds where the traces arrive
+pub kept_at_last : {S F D G K : Type 0} (stores : StoreMeaning S D) (sources : SourceMeaning F)
+    (inputs : SourceMeaning G) (outputs : SinkMeaning K) → TracesAreJoint stores sources inputs outputs →
+    ((programs : Programs stores sources inputs outputs) (pad : ℕ) → ServerStepsKeep programs pad) →
+    (programs : Programs stores sources inputs outputs) (order : List Noted) → AreJoined programs order → (pad : ℕ) →
+    IsKept pad (all_of programs)
+kept_at_last stores sources inputs outputs joint keeps programs order joins pad =
+    search (rules, joint_kept, fresh_at_last)

@@ -1,33 +1,118 @@
--- A transfer that a request opens keeps the invariant.
-use Rattle.tftp_promises.proofs.Common.{◌≡◌, ℕ, ◌+◌, Bool, true, false, List, [], ◌∷◌, ◌++◌, length, Some, None, refl}
-use Rattle.tftp_promises.proofs.Common.{sym, ap, ◌∙◌, subst, inl, inr, rules, ◌⊎◌, if◌then◌else◌, option_to_list}
-use Rattle.tftp_promises.proofs.Common.{Contains, append_cancel_right, Contains-append_right, Contains-push, Spells}
-use Rattle.tftp_promises.proofs.Common.{SinkMeaning, SourceMeaning, outcome_of, StoreMeaning, A_transfer, left_by}
-use Rattle.tftp_promises.proofs.Common.{TransferState, ServerState, at, with_new, SocketEvent, Sent, AnswersRequest}
-use Rattle.tftp_promises.proofs.Common.{LoopStep, LoopState, Request_answered, after_request, At_server, Endpoint}
-use Rattle.tftp_promises.proofs.Common.{Message, is_same, OpenEnd, open_view, peer_of, message, said, EndView, IsShown}
-use Rattle.tftp_promises.proofs.Common.{numbers, same_self, came_if, HasClosed, above, is_ours, place, place_at}
-use Rattle.tftp_promises.proofs.Common.{Programs, IsStranger, opened_ports, endpoint, joined, Snapshot, server_did}
-use Rattle.std.proofs.Common.{◌≢◌}
-use Rattle.std.specs.Prelude.{map}
+-- A datagram that the request port ignores, or answers by an ERROR, keeps the invariant.
+use Rattle.tftp_promises.proofs.Common.{List, ℕ, ◌≡◌, rules, sym, Endpoint, refl, [], ◌∙◌, ap, SourceMeaning, Some}
+use Rattle.tftp_promises.proofs.Common.{subst, inl, StoreMeaning, inr, ◌∷◌, SinkMeaning, false, true, None, ◌++◌}
+use Rattle.tftp_promises.proofs.Common.{Programs, Bool, ◌⊎◌, Contains, SocketEvent, ◌≢◌, LoopState, length}
+use Rattle.tftp_promises.proofs.Common.{TransferState, LoopStep, Sent, joined, outcome_of, OpenEnd, if◌then◌else◌}
+use Rattle.tftp_promises.proofs.Common.{endpoint, Snapshot, same_Some, at, IsStranger, open_view, ServerState, Spells}
+use Rattle.tftp_promises.proofs.Common.{Message, EndView, Contains-push, requests_at, Reply, ◌+◌, A_transfer}
+use Rattle.tftp_promises.proofs.Common.{server_did, IsShown, message, append_cancel_right, map, place_at, peer_of, said}
+use Rattle.tftp_promises.proofs.Common.{Came, Request_answered, left_by, Nothing, Left, AnswersRequest, error_bytes}
+use Rattle.tftp_promises.proofs.Common.{HasClosed, Contains-append_right, is_ours, opened_ports, option_to_list}
+use Rattle.tftp_promises.proofs.Common.{At_server, place, numbers, spells_own, came_if, with_new, after_request}
+use Rattle.tftp_promises.proofs.Common.{says_error, lookup-insert_other, above, same_self, is_same, error_packet}
+use Rattle.tftp_promises.proofs.Common.{valid_error, slice_get-push_new, opens_at, NoneAt, lookup-insert_same}
+use Rattle.tftp_rules.specs.Machine.{Error}
 use Rattle.tftp_rules.specs.EndOpens.{EndOpens}
-use Rattle.tftp_rules.specs.Shows.{NoneAt}
-use Rattle.tftp_rules.proofs.Entries.{lookup-insert_other, lookup-insert_same}
-use Rattle.tftp_rules.proofs.Indices.{slice_get-push_new}
-use Rattle.tftp_promises.specs.Openings.{opens_at}
-use Rattle.tftp_promises.proofs.RunPlaces.{placed_by, places}
-use Rattle.tftp_promises.proofs.Invariant.{AreKeyedOnce, HasStored, HasTransferBy, IsFreshBy}
-use Rattle.tftp_promises.proofs.Invariant.{IsKept, IsNamed, IsOfTransfer, IsStrangers, IsThere, ServerKept}
-use Rattle.tftp_promises.proofs.Invariant.{TransferKept, same_transfer}
-use Rattle.tftp_promises.proofs.KeptEvents.{only_one}
-use Rattle.tftp_promises.proofs.KeptRefusals.{closed_earlier, new_is, one_sent}
-use Rattle.tftp_promises.proofs.KeptServer.{ServerTurns, server_keeps}
-use Rattle.tftp_promises.proofs.KeptViews.{among_push, viewed_before}
+use Rattle.tftp_promises.proofs.Places.{placed_by, places, strange_if}
+use Rattle.tftp_promises.proofs.Invariant.{IsKept, IsThere, AreKeyedOnce, HasStored, HasTransferBy, IsFreshBy, IsNamed}
+use Rattle.tftp_promises.proofs.Invariant.{IsOfTransfer, IsStrangers, ServerKept, TransferKept, same_transfer}
+use Rattle.tftp_promises.proofs.Orders.{IsSilent, added_none, answered_sends, none_silent, one_in}
+use Rattle.tftp_promises.proofs.KeptServer.{says_keeps, still_keeps, ServerStays, ServerTurns, server_keeps}
+use Rattle.tftp_promises.proofs.KeptServer.{stored_after}
+use Rattle.tftp_promises.proofs.Requested.{IsRefused}
 use Rattle.tftp_promises.proofs.MovedSteps.{MovesNone, none_answered}
-use Rattle.tftp_promises.proofs.NewIdentifiers.{at-with_new_cases, once-with_new}
+use Rattle.tftp_promises.proofs.KeptViews.{among_push, viewed_before}
+use Rattle.tftp_promises.proofs.Identifiers.{at-with_new_cases, once-with_new}
 use Rattle.tftp_promises.proofs.NewPlaces.{at_server as place_at_server, client_apart, new_place}
-use Rattle.tftp_promises.proofs.Places.{strange_if}
-use Rattle.tftp_promises.proofs.ServerStays.{stored_after}
+
+module _ {S F D G K : Type 0} {stores : StoreMeaning S D} {sources : SourceMeaning F} {inputs : SourceMeaning G}
+    {outputs : SinkMeaning K} {programs : Programs stores sources inputs outputs} {pad : ℕ} {old : Snapshot programs}
+    (kept : IsKept pad old) {new : LoopState S F D} (answers : AnswersRequest stores sources old.state new) where
+  abbrev asked_server : ServerState S F D
+  asked_server = old.state.server
+
+  abbrev answered_step : LoopStep stores sources old.state new
+  answered_step = Request_answered answers
+
+  -- what the port leaves after this came
+  pub left_is : (came : Came S F D) → answers.steps.came ≡ came →
+      answers.left ≡ left_by came asked_server answers.from answers.tid
+  left_is came is = answers.steps.left ∙ ap (λ (c : Came S F D). left_by c asked_server answers.from answers.tid) is
+
+  -- and the state of the loop
+  pub new_is : (came : Came S F D) → answers.steps.came ≡ came →
+      new ≡ after_request old.state answers.from (left_by came asked_server answers.from answers.tid)
+  new_is came is = answers.is ∙ ap (λ (l : Left S F D). after_request old.state answers.from l) (left_is came is)
+
+  -- a request removes no transfer
+  pub closed_earlier : (added : List SocketEvent) (port : ℕ) (transfer : TransferState F D) (a : Endpoint) →
+      HasClosed programs (server_did old answered_step added).run port transfer a → HasClosed programs old.run port transfer a
+  closed_earlier added port transfer a h4 = search rules
+
+  -- one datagram was sent
+  abbrev pub SentOf : List Message → Endpoint → Endpoint → List ℕ → Type 0
+  SentOf messages from to bytes = IsThere messages from to bytes ⊎ IsStranger programs to
+
+  pub one_sent : (messages : List Message) (own : ℕ) (reply : Reply) (added : List SocketEvent) →
+      Sent own reply.to reply.bytes ∷ [] ≡ added → SentOf messages (endpoint programs.ip own) reply.to reply.bytes →
+      (port : ℕ) (to : Endpoint) (bytes : List ℕ) → Contains added (Sent port to bytes) →
+      SentOf messages (endpoint programs.ip port) to bytes
+  one_sent messages own reply added is there port to bytes c =
+      let s = answered_sends own (Some reply) [] none_silent port to bytes (rw (sym is) at c) in
+      rw (same_Some reply (record { to = to; bytes = bytes }) s.1) at (subst (λ (n : ℕ). SentOf messages (endpoint
+      programs.ip n) reply.to reply.bytes) s.0 there)
+
+  -- if no transfer opens, all else is as it was
+  stays_so : option_to_list answers.left.opened.tid ≡ [] → new.requests ≡ old.state.requests →
+      new.server.config ≡ asked_server.config → new.pending ≡ None → ServerStays kept answered_step
+  stays_so opens requests config pending = search rules
+
+  -- nothing moves then
+  moves_none : placed_by programs old.run answered_step ≡ [] → (a : Endpoint) → MovesNone programs old.run answered_step a
+  moves_none opens a = search rules
+
+  -- a datagram that is ignored
+  pub silent_keeps : (added : List SocketEvent) → new.events ≡ added ++ old.state.events → answers.steps.came ≡ Nothing →
+      IsKept pad (server_did old answered_step added)
+  silent_keeps added noted is =
+      let e = new_is Nothing is in
+      let none : [] ≡ added = added_none old.state.events added (sym (ap (λ s. s.events) e) ∙ noted) in
+      let stays =
+      stays_so (ap (λ l. option_to_list l.opened.tid) (left_is Nothing is)) (ap (λ s. s.requests) e) (ap (λ s.
+      s.server.config) e) (ap (λ s. s.pending) e) in
+      still_keeps kept answered_step stays (moves_none stays.opens) (ap (λ s. s.server.held) e) added (subst IsSilent none
+      none_silent)
+
+  -- one that is answered by an ERROR
+  pub refusal_keeps : (added : List SocketEvent) → new.events ≡ added ++ old.state.events →
+      IsRefused stores sources asked_server answers.from answers.bytes answers.steps.came →
+      IsKept pad (server_did old answered_step added)
+  refusal_keeps added noted r =
+      let e = new_is _ r.is in
+      let own = old.state.requests in
+      let from = answers.from in
+      let bytes = error_bytes r.reply in
+      let a = requests_at programs in
+      let m : Message = message a from Error in
+      let one : Sent own from bytes ∷ [] ≡ added =
+      append_cancel_right (Sent own from bytes ∷ []) added old.state.events (sym (ap (λ (s : LoopState S F D). s.events)
+      e) ∙ noted) in
+      let said : IsThere (kept.messages ++ m ∷ []) (endpoint programs.ip programs.port) from bytes =
+      (error_packet r.reply, spells_own (error_packet r.reply) (valid_error r.reply), Contains-push kept.messages m) in
+      let there : IsThere (kept.messages ++ m ∷ []) (endpoint programs.ip own) from bytes =
+      subst (λ (n : ℕ). IsThere (kept.messages ++ m ∷ []) (endpoint programs.ip n) from bytes) (sym
+      kept.server.requests) said in
+      let stays =
+      stays_so (ap (λ (l : Left S F D). option_to_list l.opened.tid) (left_is _ r.is)) (ap (λ (s : LoopState S F D).
+      s.requests) e) (ap (λ (s : LoopState S F D). s.server.config) e) (ap (λ (s : LoopState S F D). s.pending) e) in
+      let shown = says_error (joined programs) kept.shown.0 kept.views kept.messages kept.shown.1 a from in
+      says_keeps _ _ stays (moves_none stays.opens) (ap (λ (s : LoopState S F D). s.server.held) e) _ _ (
+        kept.shown.0 ++
+            shown.0,
+        shown.2,
+      ) (one_sent _ _ _ _ one (inl there))
+
+-- A transfer that a request opens keeps the invariant.
 
 module _ {S F D G K : Type 0} {stores : StoreMeaning S D} {sources : SourceMeaning F} {inputs : SourceMeaning G}
     {outputs : SinkMeaning K} {programs : Programs stores sources inputs outputs} {pad : ℕ} {old : Snapshot programs}
@@ -170,7 +255,7 @@ module _ {S F D G K : Type 0} {stores : StoreMeaning S D} {sources : SourceMeani
       -- nothing moves at another place
       beside : (b : Endpoint) → Contains opened b → MovesNone programs old.run does b
       beside b c =
-          none_answered programs old.run answers b (λ d. place_is_new b c (sym (only_one a b (rw (placed) at d))))
+          none_answered programs old.run answers b (λ d. place_is_new b c (sym (one_in b a (rw (placed) at d))))
 
       other : (port : ℕ) (t : TransferState F D) (b : Endpoint) → HasTransferBy old port t b →
           TransferKept pad views messages now port t b

@@ -1,22 +1,23 @@
 -- A step of the server at the port of a transfer keeps the invariant, if it does of the transfer's own end.
-use Rattle.tftp_promises.proofs.Common.{◌≡◌, ℕ, false, List, ◌++◌, set, Some, refl, sym, ap, ◌∙◌, subst, inl, inr}
-use Rattle.tftp_promises.proofs.Common.{rules, ◌⊎◌, slice_get, Contains, cases_eq, SinkMeaning, SourceMeaning}
-use Rattle.tftp_promises.proofs.Common.{is_client, StoreMeaning, TransferState, at, with_next, SocketEvent, Sent}
-use Rattle.tftp_promises.proofs.Common.{LoopState, LoopStep, EndKept, Endpoint, Message, OpenEnd, open_view, EndView}
-use Rattle.tftp_promises.proofs.Common.{IsShown, IsAmong, numbers, slice_get-set_same, IsUnblamed, HasClosed, place_at}
-use Rattle.tftp_promises.proofs.Common.{Programs, IsStranger, endpoint, joined, Snapshot, server_did}
-use Rattle.std.proofs.Common.{◌≢◌}
-use Rattle.tftp_rules.proofs.Entries.{lookup-set_other, lookup-set_same}
-use Rattle.tftp_promises.proofs.RunPlaces.{places}
+use Rattle.tftp_promises.proofs.Common.{List, ℕ, ◌≡◌, rules, sym, Endpoint, refl, ◌∙◌, ap, SourceMeaning, Some, subst}
+use Rattle.tftp_promises.proofs.Common.{inl, StoreMeaning, inr, SinkMeaning, false, ◌++◌, Programs, ◌⊎◌, Contains}
+use Rattle.tftp_promises.proofs.Common.{SocketEvent, ◌≢◌, LoopState, slice_get, TransferState, LoopStep, Sent, joined}
+use Rattle.tftp_promises.proofs.Common.{OpenEnd, endpoint, Snapshot, at, Turn, IsStranger, open_view, Message, EndView}
+use Rattle.tftp_promises.proofs.Common.{cases_eq, Reply, is_client, server_did, IsShown, place_at, with_next, IsAmong}
+use Rattle.tftp_promises.proofs.Common.{set, HasClosed, EndKept, IsUnblamed, slice_get-set_same, numbers, Goes}
+use Rattle.tftp_promises.proofs.Common.{unblamed_still, lookup-set_same, lookup-set_other}
+use Rattle.tftp_promises.proofs.Places.{places}
 use Rattle.tftp_promises.proofs.Identifiers.{at-with_next_cases, once-with_next}
 use Rattle.tftp_promises.proofs.Invariant.{AreKeyedOnce, IsThere, IsViewed, HasStored, HasTransferBy, TransferKept}
 use Rattle.tftp_promises.proofs.Invariant.{ServerKept, IsOfTransfer, IsKept, IsFreshBy, IsStrangers, named_still}
 use Rattle.tftp_promises.proofs.Invariant.{SendsText, same_transfer}
-use Rattle.tftp_promises.proofs.KeptServer.{ServerTurns, server_keeps}
-use Rattle.tftp_promises.proofs.KeptViews.{arrived_still, viewed_beside, among_set}
+use Rattle.tftp_promises.proofs.KeptServer.{ServerTurns, server_keeps, ServerStays, stored_after, closed_before}
+use Rattle.tftp_promises.proofs.KeptServer.{opened_still}
+use Rattle.tftp_promises.proofs.KeptViews.{arrived_still, viewed_beside, among_set, there_still}
 use Rattle.tftp_promises.proofs.MovedSteps.{MovesNone}
 use Rattle.tftp_promises.proofs.NewPlaces.{client_apart}
-use Rattle.tftp_promises.proofs.ServerStays.{ServerStays, stored_after, closed_before, opened_still}
+use Rattle.tftp_promises.proofs.Orders.{SendsOnly}
+use Rattle.tftp_promises.proofs.KeptClients.{reply_there, newest_there}
 
 module _ {S F D G K : Type 0} {stores : StoreMeaning S D} {sources : SourceMeaning F} {inputs : SourceMeaning G}
     {outputs : SinkMeaning K} {programs : Programs stores sources inputs outputs} {pad : ℕ} where
@@ -222,3 +223,103 @@ module _ {S F D G K : Type 0} {stores : StoreMeaning S D} {sources : SourceMeani
 
     pub port_keeps : IsKept pad now
     port_keeps = server_keeps kept does added port_turns
+
+-- A turn of the end of a transfer that the server holds keeps the invariant.
+
+module _ {S F D G K : Type 0} {stores : StoreMeaning S D} {sources : SourceMeaning F} {inputs : SourceMeaning G}
+    {outputs : SinkMeaning K} {programs : Programs stores sources inputs outputs} {pad : ℕ} {old : Snapshot programs}
+    (kept : IsKept pad old) {new : LoopState S F D} (does : LoopStep stores sources old.state new)
+    (added : List SocketEvent) (port : ℕ) (transfer : TransferState F D)
+    (found : at port old.state.server.held ≡ Some transfer) where
+  -- its place, and the end before
+  abbrev its_place : Endpoint
+  its_place = place_at programs port old.run
+
+  abbrev its_end : TransferKept pad kept.views kept.messages old port transfer its_place
+  its_end = kept.transfers port transfer its_place (inl (found, refl))
+
+  -- the end x and its transfer after a turn
+  pub record Becomes (x : OpenEnd) (turn : Turn) (next : TransferState F D) : Type 0 where
+    pub end : OpenEnd
+    pub goes : Goes (joined programs) kept.shown.0 kept.views kept.messages its_end.viewed.index x turn end
+    pub address : end.address ≡ x.address
+    pub state : end.state ≡ next.end
+    pub path : end.path ≡ next.path
+    pub request : end.request ≡ next.request
+    pub path_stays : next.path ≡ transfer.path
+    pub request_stays : next.request ≡ transfer.request
+    pub unblamed : IsUnblamed (joined programs) (SendsText programs pad) kept.messages end.state
+    pub has : HasStored pad (server_did old does added) end next.files
+
+  -- the turn of a stranger's transfer: it is one still, and what it answers is for a stranger, or is there from its
+  -- port
+  pub record Aside (turn : Turn) (y : OpenEnd) : Type 0 where
+    pub strangers : IsStrangers programs y.state
+    pub replies : (reply : Reply) → turn.reply ≡ Some reply →
+        IsStranger programs reply.to ⊎ IsThere kept.messages (endpoint programs.ip port) reply.to reply.bytes
+
+  -- it stands at its port, or aside
+  abbrev pub IsSeated : Turn → OpenEnd → Type 0
+  IsSeated turn y = (its_place ≡ endpoint programs.ip port) ⊎ Aside turn y
+
+  module _ (fresh : IsFreshBy old) (stays : ServerStays kept does) (x : OpenEnd)
+      (address : x.address ≡ its_place) (side : is_client x.state.role.side ≡ false)
+      (last_sent : IsThere kept.messages x.address x.state.position.last_sent_to x.state.position.last_sent)
+      (turn : Turn) (next : TransferState F D) (held : new.server.held ≡ with_next port next old.state.server.held)
+      (becomes : Becomes x turn next) (sends : SendsOnly port turn.reply added)
+      (seated : IsSeated turn becomes.end) (none : (a : Endpoint) → its_place ≢ a → MovesNone programs old.run does a) where
+    abbrev SentBy : ℕ → Endpoint → List ℕ → Type 0
+    SentBy own to bytes =
+        IsThere (kept.messages ++ becomes.goes.said_now) (endpoint programs.ip own) to bytes ⊎ IsStranger programs to
+
+    sent_by : (to : Endpoint) (bytes : List ℕ) → turn.reply ≡ Some (record { to = to; bytes = bytes }) →
+        IsSeated turn becomes.end → SentBy port to bytes
+    sent_by to bytes says (inl here) =
+        let there =
+        reply_there kept.messages becomes.goes.said_now x.address turn.reply to bytes becomes.goes.replies says in
+        inl (subst (λ (a : Endpoint). IsThere (kept.messages ++ becomes.goes.said_now) a to bytes) (address ∙ here)
+        there)
+    sent_by to bytes says (inr aside) = elim (aside.replies (record { to = to; bytes = bytes }) says) [
+      | inl strange ↦ inr strange
+      | inr there ↦
+          inl (there_still kept.messages becomes.goes.said_now there)
+    ]
+
+    sent_now : (own : ℕ) (to : Endpoint) (bytes : List ℕ) → Contains added (Sent own to bytes) → SentBy own to bytes
+    sent_now own to bytes c =
+        let h = sends own to bytes c in subst (λ (p : ℕ). SentBy p to bytes) h.0 (sent_by to bytes h.1 seated)
+
+    seat_now : IsSeated turn becomes.end →
+        (its_place ≡ endpoint programs.ip port) ⊎ IsStrangers programs becomes.end.state
+    seat_now (inl here) = inl here
+    seat_now (inr aside) = inr aside.strangers
+
+    turns : PortTurns kept does added port transfer found
+    turns = record {
+      next = next;
+      held = held;
+      said_now = becomes.goes.said_now;
+      sends = sent_now;
+      end = becomes.end;
+      address = becomes.address ∙ address;
+      seat = seat_now seated;
+      state = becomes.state;
+      path = becomes.path;
+      request = becomes.request;
+      path_stays = becomes.path_stays;
+      request_stays = becomes.request_stays;
+      side = ap is_client becomes.goes.side ∙ side;
+      shown = (kept.shown.0 ++ becomes.goes.shown.0, becomes.goes.shown.2);
+      is_kept = becomes.goes.kept;
+      last_sent =
+          subst (λ (a : Endpoint). IsThere (kept.messages ++ becomes.goes.said_now) a
+          becomes.end.state.position.last_sent_to becomes.end.state.position.last_sent) (sym becomes.address)
+          (newest_there kept.messages becomes.goes.said_now x becomes.end turn becomes.goes.replies
+          becomes.goes.last_sent last_sent);
+      unblamed =
+          unblamed_still (joined programs) kept.messages becomes.goes.said_now becomes.end.state becomes.unblamed;
+      has = becomes.has;
+    }
+
+    pub turn_keeps : IsKept pad (server_did old does added)
+    turn_keeps = port_keeps kept fresh does stays added port transfer found turns none

@@ -1,34 +1,113 @@
--- A request that the request port answers keeps the invariant.
-use Rattle.tftp_promises.proofs.Common.{◌≡◌, ℕ, ◌*◌, ◌<◌, ◌≤◌, Bool, true, false, List, [], ◌++◌, length, Option, Some}
-use Rattle.tftp_promises.proofs.Common.{refl, sym, ap, ◌∙◌, subst, inl, rules, Contains, true≢false, Spells, Mode}
-use Rattle.tftp_promises.proofs.Common.{RawOption, size, IsBlockSize, IsPrefixOf, SinkMeaning, SourceMeaning, Source}
-use Rattle.tftp_promises.proofs.Common.{Sink, Decodes, EndState, serving_read, serving_write, TakesInTurn, StoreMeaning}
-use Rattle.tftp_promises.proofs.Common.{TransferState, ServerState, Config, SocketEvent, AnswersRequest, LoopState}
-use Rattle.tftp_promises.proofs.Common.{Request_answered, Endpoint, OpenEnd, message, requested, GaveSince, Moved}
-use Rattle.tftp_promises.proofs.Common.{first_moved, moved_at, opened_at, place, Programs, opened_ports, joined}
-use Rattle.tftp_promises.proofs.Common.{Snapshot, server_did}
-use Rattle.tftp_wire.specs.declared.packet.Packet.{Packet as WirePacket}
-use Rattle.tftp_wire.specs.declared.packet.Request.{Request as WireRequest}
+-- The end of the server that a request opens: its side, its peer, and the text that it sends first.
+use Rattle.tftp_promises.proofs.Common.{List, ℕ, ◌≡◌, rules, sym, Endpoint, refl, [], ◌∙◌, ap, SourceMeaning, Some}
+use Rattle.tftp_promises.proofs.Common.{subst, inl, StoreMeaning, ◌∷◌, SinkMeaning, false, true, None, ◌++◌, Programs}
+use Rattle.tftp_promises.proofs.Common.{Bool, EndState, Contains, SocketEvent, Option, true≢false, arith, LoopState}
+use Rattle.tftp_promises.proofs.Common.{length, TransferState, joined, outcome_of, OpenEnd, is_sender, Snapshot, Moved}
+use Rattle.tftp_promises.proofs.Common.{Mode, Sink, Source, ServerState, Spells, WirePacket, ◌≤◌, IsPrefixOf, ◌<◌}
+use Rattle.tftp_promises.proofs.Common.{server_did, message, IsBlockSize, moved_at, peer_of, opened_at}
+use Rattle.tftp_promises.proofs.Common.{Request_answered, WireRequest, Known, ◌*◌, Config, AnswersRequest, GaveSince}
+use Rattle.tftp_promises.proofs.Common.{requested, opened_ports, serving_read, RawOption, place, size, block_length}
+use Rattle.tftp_promises.proofs.Common.{DEFAULT_BLOCK, take, serving_write, Decodes, drop, TakesInTurn, first_moved}
+use Rattle.tftp_promises.proofs.Common.{or_before, block, opening_moves}
+use Rattle.std.proofs.Common.{min}
+use Rattle.std.proofs.lemmas.List.{take_min, drop_min}
 use Rattle.tftp_file.specs.Block.{Fits}
+use Rattle.tftp_rules.specs.EndOpens.{left_at_first, sending, IsNewly, new_receiver, new_sender}
+use Rattle.tftp_rules.proofs.FirstSent.{first_want}
 use Rattle.tftp_store.specs.Drafts.{Took_nothing}
-use Rattle.tftp_rules.specs.EndOpens.{IsNewly, new_receiver, new_sender, sending}
 use Rattle.tftp_rules.specs.Machine.{Packet}
 use Rattle.tftp_rules.proofs.EndOpenings.{opens_to_send, opens_to_store}
-use Rattle.tftp_promises.specs.Moved.{opening_moves, or_before}
-use Rattle.tftp_promises.proofs.GivenSteps.{gave_first}
-use Rattle.tftp_promises.proofs.Invariant.{GaveSo, HasStored, IsFreshBy, IsKept, IsNamed}
-use Rattle.tftp_promises.proofs.Invariant.{IsGiven, IsTaken, TookSo}
+use Rattle.tftp_promises.proofs.Requested.{IsFirst, Begins_to_send, Begins_to_store, IsBegunBy, IsOpenedBy, OpensToSend}
+use Rattle.tftp_promises.proofs.Requested.{OpensToStore, PortAnswers, Says_error, Silent, port_answers, IsAsked}
+use Rattle.tftp_promises.proofs.Texts.{begins_by_take, then_rest, begins_padded, pad_length}
+use Rattle.tftp_promises.proofs.MovedSends.{gave_first}
+use Rattle.tftp_promises.proofs.Invariant.{GaveSo, HasStored, IsFreshBy, IsKept, IsNamed, IsGiven, IsTaken, TookSo}
 use Rattle.tftp_promises.proofs.Invariant.{length_of, place_text}
 use Rattle.tftp_promises.proofs.KeptAsks.{says_request}
-use Rattle.tftp_promises.proofs.KeptOpenings.{at_server, came_here, its_place, none_there, opening_keeps}
-use Rattle.tftp_promises.proofs.KeptRefusals.{refusal_keeps, silent_keeps}
-use Rattle.tftp_promises.proofs.PortAnswers.{Begins_to_send, Begins_to_store, IsBegunBy, IsOpenedBy, OpensToSend}
-use Rattle.tftp_promises.proofs.PortAnswers.{OpensToStore, PortAnswers, Says_error, Silent, port_answers}
-use Rattle.tftp_promises.proofs.Requested.{IsAsked}
-use Rattle.tftp_promises.proofs.RequestedEnds.{first_of_text, read_length, read_mode, read_peer, read_sends, read_still}
-use Rattle.tftp_promises.proofs.RequestedEnds.{write_mode, write_moves_none, write_peer, write_still, write_stores}
-use Rattle.tftp_promises.proofs.Texts.{begins_padded, pad_length}
+use Rattle.tftp_promises.proofs.KeptOpenings.{at_server, came_here, its_place, none_there, opening_keeps, refusal_keeps}
+use Rattle.tftp_promises.proofs.KeptOpenings.{silent_keeps}
 use Rattle.tftp_promises.proofs.Unanswered.{none_answers}
+
+-- the end of a read sends, and that of a write has stored nothing yet
+pub read_sends : (agreed : List Known) (peer : Endpoint) (mode : Mode) (text : List ℕ) (retries : ℕ) →
+    is_sender (sending agreed peer mode text retries).role.side ≡ true
+read_sends [] peer mode text retries = refl
+read_sends (known ∷ agreed) peer mode text retries = refl
+
+pub write_stores : (agreed : List Known) (peer : Endpoint) (mode : Mode) (retries : ℕ) →
+    is_sender (serving_write agreed peer mode retries).role.side ≡ false
+write_stores [] peer mode retries = refl
+write_stores (known ∷ agreed) peer mode retries = refl
+
+pub read_mode : (agreed : List Known) (peer : Endpoint) (mode : Mode) (text : List ℕ) (retries : ℕ) →
+    (sending agreed peer mode text retries).role.mode ≡ mode
+read_mode [] peer mode text retries = refl
+read_mode (known ∷ agreed) peer mode text retries = refl
+
+pub write_mode : (agreed : List Known) (peer : Endpoint) (mode : Mode) (retries : ℕ) →
+    (serving_write agreed peer mode retries).role.mode ≡ mode
+write_mode [] peer mode retries = refl
+write_mode (known ∷ agreed) peer mode retries = refl
+
+pub read_length : (agreed : List Known) (peer : Endpoint) (mode : Mode) (measured retries : ℕ) (piece : List ℕ) →
+    (serving_read agreed peer mode measured retries piece).role.length ≡ measured
+read_length agreed peer mode measured retries piece = search rules
+
+-- the peer of both is the client
+pub read_peer : (agreed : List Known) (peer : Endpoint) (mode : Mode) (text : List ℕ) (retries : ℕ) →
+    peer_of (sending agreed peer mode text retries).position.phase ≡ Some peer
+read_peer [] peer mode text retries = refl
+read_peer (known ∷ agreed) peer mode text retries = refl
+
+pub write_peer : (agreed : List Known) (peer : Endpoint) (mode : Mode) (retries : ℕ) →
+    peer_of (serving_write agreed peer mode retries).position.phase ≡ Some peer
+write_peer [] peer mode retries = refl
+write_peer (known ∷ agreed) peer mode retries = refl
+
+-- both are open
+pub read_still : (agreed : List Known) (peer : Endpoint) (mode : Mode) (text : List ℕ) (retries : ℕ) →
+    outcome_of (sending agreed peer mode text retries).position.phase ≡ None
+read_still [] peer mode text retries = refl
+read_still (known ∷ agreed) peer mode text retries = refl
+
+pub write_still : (agreed : List Known) (peer : Endpoint) (mode : Mode) (retries : ℕ) →
+    outcome_of (serving_write agreed peer mode retries).position.phase ≡ None
+write_still [] peer mode retries = refl
+write_still (known ∷ agreed) peer mode retries = refl
+
+pub write_moves_none : (agreed : List Known) (peer : Endpoint) (mode : Mode) (retries : ℕ) →
+    (first_moved (serving_write agreed peer mode retries)).bytes ≡ []
+write_moves_none [] peer mode retries = refl
+write_moves_none (known ∷ agreed) peer mode retries = refl
+
+-- what a read sends first is of the text that begins so
+pub first_of_text : (agreed : List Known) (peer : Endpoint) (mode : Mode) (measured retries : ℕ) (piece text : List ℕ) →
+    IsFirst agreed measured piece → length text ≡ measured →
+    (length (first_moved (serving_read agreed peer mode measured retries piece)).bytes ≤ measured →
+    IsPrefixOf (first_moved (serving_read agreed peer mode measured retries piece)).bytes text) →
+    (serving_read agreed peer mode measured retries piece ≡ sending agreed peer mode text retries)
+    × IsPrefixOf (first_moved (serving_read agreed peer mode measured retries piece)).bytes text
+    × ((first_moved (serving_read agreed peer mode measured retries piece)).bytes ++ left_at_first agreed text ≡ text)
+first_of_text [] peer mode measured retries piece text first long begins =
+    let want : block_length measured DEFAULT_BLOCK 1 ≡ min DEFAULT_BLOCK (length text) =
+    first_want measured (length text) (sym long) in
+    let short : length piece ≤ measured = omega (arith, first, want, long) in
+    let b : IsPrefixOf piece text = begins short in
+    let is : piece ≡ block text DEFAULT_BLOCK 1 =
+    sym (begins_by_take piece text b) ∙ (ap (λ (n : ℕ). take n text) (first ∙ want) ∙ take_min DEFAULT_BLOCK text) in (
+      ap (λ (n : ℕ). serving_read [] peer mode n retries piece) (sym long)
+          ∙ ap (λ (p : List ℕ). serving_read [] peer mode (length text) retries p) is,
+      b,
+      ap (λ (ts : List ℕ). piece ++ ts) (sym (drop_min DEFAULT_BLOCK text) ∙ ap (λ (n : ℕ). drop n text)
+          (sym (first ∙ want))) ∙ then_rest piece text b,
+    )
+first_of_text (known ∷ agreed) peer mode measured retries piece text first long begins = (
+  ap (λ (n : ℕ). serving_read (known ∷ agreed) peer mode n retries piece) (sym long),
+  (text, refl),
+  refl,
+)
+
+-- A request that the request port answers keeps the invariant.
 
 module _ {S F D G K : Type 0} {stores : StoreMeaning S D} {sources : SourceMeaning F} {inputs : SourceMeaning G}
     {outputs : SinkMeaning K} {programs : Programs stores sources inputs outputs} {pad : ℕ} {old : Snapshot programs}

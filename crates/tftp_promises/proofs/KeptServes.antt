@@ -1,43 +1,32 @@
 -- Each step of the server keeps the invariant, if an answered request does.
-use Rattle.tftp_promises.proofs.Common.{◌≡◌, ℕ, true, List, [], ◌∷◌, ◌++◌, Some, None, refl, sym, ap, ◌∙◌, subst, inl}
-use Rattle.tftp_promises.proofs.Common.{inr, rules, ◌⊎◌, Contains, AllByRecursion, cases_Bool, Contains-push}
-use Rattle.tftp_promises.proofs.Common.{SinkMeaning, SourceMeaning, UnknownTransferId, EndState, error_bytes}
-use Rattle.tftp_promises.proofs.Common.{StoreMeaning, TransferState, ServerState, SocketEvent, Received, Watched}
-use Rattle.tftp_promises.proofs.Common.{Elapsed, Printed, Quiet, Empty, Failed, Slept, Woke, LoopState, LoopStep}
-use Rattle.tftp_promises.proofs.Common.{port_state, At_port, Request_answered, ServesPort, AnswersRequest, PortStep}
-use Rattle.tftp_promises.proofs.Common.{Endpoint, CanTake, WasSentBefore, Moved, port_moves, is_ours, our_ports}
-use Rattle.tftp_promises.proofs.Common.{place_at, Programs, IsStranger, MayCome, requests_at, Removes, endpoint, joined}
-use Rattle.tftp_promises.proofs.Common.{Snapshot, server_did}
-use Rattle.tftp_sockets.specs.Trace.QuietEvent.{Drain_signalled}
-use Rattle.tftp_loop.specs.Steps.{Waited, Request_received, No_request_found}
-use Rattle.tftp_loop.specs.Steps.{Request_not_received, Request_noted, Request_lost, Clock_read}
-use Rattle.tftp_loop.specs.Steps.{Store_set, BeginsDrain, Drain_begun, Transfer_closed}
-use Rattle.tftp_loop.specs.Steps.{Waits, ReceivesRequest, FindsNoRequest, FailsToReceiveRequest}
-use Rattle.tftp_loop.specs.Steps.{NotesRequest, LosesRequest, ReadsClock, SetsStore, A_datagram}
-use Rattle.tftp_loop.specs.Steps.{note_event}
-use Rattle.tftp_loop.specs.Steps.{A_lost_datagram, A_late_datagram, Nothing_found, A_failed_receive, A_timeout}
-use Rattle.tftp_loop.specs.Steps.{A_missed_timeout}
-use Rattle.tftp_loop.specs.Steps.{ReceivesAndHandles, Work}
-use Rattle.tftp_promises.proofs.RunPlaces.{placed_by}
+use Rattle.tftp_promises.proofs.Common.{List, ℕ, ◌≡◌, rules, sym, Endpoint, refl, [], ◌∙◌, ap, SourceMeaning, Some}
+use Rattle.tftp_promises.proofs.Common.{subst, inl, StoreMeaning, inr, ◌∷◌, SinkMeaning, true, None, ◌++◌, Programs}
+use Rattle.tftp_promises.proofs.Common.{EndState, ◌⊎◌, Contains, SocketEvent, LoopState, TransferState, LoopStep}
+use Rattle.tftp_promises.proofs.Common.{joined, Received, endpoint, Snapshot, IsStranger, Moved, ServerState}
+use Rattle.tftp_promises.proofs.Common.{cases_Bool, Contains-push, requests_at, server_did, our_ports, WasSentBefore}
+use Rattle.tftp_promises.proofs.Common.{place_at, Watched, Printed, Quiet, PortStep, Request_answered, state_is}
+use Rattle.tftp_promises.proofs.Common.{AnswersRequest, error_bytes, MayCome, port_state, is_ours, CanTake}
+use Rattle.tftp_promises.proofs.Common.{AllByRecursion, Slept, server_is, trace_is, Removes, ServesPort}
+use Rattle.tftp_promises.proofs.Common.{UnknownTransferId, Woke, port_moves, ReceivesAndHandles}
+use Rattle.tftp_loop.specs.Steps.{At_port, Waited, Request_received, Request_lost, Store_set, Transfer_closed}
+use Rattle.tftp_loop.specs.Steps.{ReceivesRequest, SetsStore, A_datagram, A_lost_datagram, A_timeout, Work}
+use Rattle.tftp_promises.proofs.Places.{placed_by, at_port, strange_if, stranger_no_port}
 use Rattle.tftp_promises.proofs.Invariant.{HasArrived, IsThere, IsKept, IsFreshBy, IsStrangers}
 use Rattle.tftp_promises.proofs.KeptCloses.{closing_keeps}
-use Rattle.tftp_promises.proofs.KeptEvents.{IsSilent, IsUnsent, printed_silent, added_by, none_silent, unsent_silent}
-use Rattle.tftp_promises.proofs.KeptFresh.{fresh_before_server}
-use Rattle.tftp_promises.proofs.KeptRuns.{ServerStepsKeep}
-use Rattle.tftp_promises.proofs.KeptStill.{still_keeps}
+use Rattle.tftp_promises.proofs.Orders.{IsSilent, IsUnsent, printed_silent, added_by, none_silent, unsent_silent}
+use Rattle.tftp_promises.proofs.Orders.{first_in}
+use Rattle.tftp_promises.proofs.KeptFresh.{fresh_before_server, ServerStepsKeep}
+use Rattle.tftp_promises.proofs.KeptServer.{still_keeps}
 use Rattle.tftp_promises.proofs.MovedSteps.{MovesNone}
 use Rattle.tftp_promises.proofs.NewPlaces.{at_server}
-use Rattle.tftp_promises.proofs.Orders.{first_in}
-use Rattle.tftp_promises.proofs.Places.{at_port, strange_if, stranger_no_port}
 use Rattle.tftp_promises.proofs.PortDatagrams.{datagram_keeps, wrong_keeps}
-use Rattle.tftp_promises.proofs.KeptStrays.{arrives, errs, strays_in}
-use Rattle.tftp_promises.proofs.PortSteps.{received_there, datagram_silent}
-use Rattle.tftp_promises.proofs.PortTimeouts.{timeout_keeps}
-use Rattle.tftp_promises.proofs.PortWork.{lost_keeps, missed_keeps, work_keeps}
+use Rattle.tftp_promises.proofs.KeptViews.{arrives, errs, strays_in}
+use Rattle.tftp_promises.proofs.PortWork.{received_there, datagram_silent, lost_keeps, missed_keeps, work_keeps}
+use Rattle.tftp_promises.proofs.PortWork.{timeout_keeps}
+use Rattle.tftp_promises.proofs.KeptRequests.{request_keeps}
 
 module _ {S F D G K : Type 0} {stores : StoreMeaning S D} {sources : SourceMeaning F} {inputs : SourceMeaning G}
-    {outputs : SinkMeaning K}
-    (programs : Programs stores sources inputs outputs) (pad : ℕ) where
+    {outputs : SinkMeaning K} (programs : Programs stores sources inputs outputs) (pad : ℕ) where
   -- a request that the server answers keeps the invariant
   abbrev pub AnswersKeep : Type 0
   AnswersKeep =
@@ -96,9 +85,8 @@ module _ {S F D G K : Type 0} {stores : StoreMeaning S D} {sources : SourceMeani
         ((a : Endpoint) → MovesNone programs old.run does a) → {left : LoopState S F D} → new ≡ left →
         left.requests ≡ old.state.requests → left.server ≡ old.state.server →
         ((from : Endpoint) (bytes : List ℕ) → left.pending ≡ Some (from, bytes) →
-        old.state.pending ≡ Some (from, bytes)) →
-        (noted : List SocketEvent) → left.events ≡ noted ++ old.state.events → AllByRecursion IsUnsent noted →
-        IsKept pad (server_did old does added)
+        old.state.pending ≡ Some (from, bytes)) → (noted : List SocketEvent) →
+        left.events ≡ noted ++ old.state.events → AllByRecursion IsUnsent noted → IsKept pad (server_did old does added)
     same_keeps does opens seats removes none is requests server pending noted e unsent =
         let server_same : new.server ≡ old.state.server = ap (λ s. s.server) is ∙ server in
         still_keeps kept does (record {
@@ -109,60 +97,8 @@ module _ {S F D G K : Type 0} {stores : StoreMeaning S D} {sources : SourceMeani
           config = ap (λ s. s.config) server_same;
           pending =
               λ from bytes e. kept.server.pending from bytes (pending from bytes (ap (λ s. s.pending) (sym is) ∙ e));
-        }) none (ap (λ s. s.held) server_same) added (silent_by noted (ap (λ s. s.events) is ∙ e) (unsent_silent noted
-        unsent))
-
-    -- ---- a wait
-    waiting_keeps : (h : Waits stores sources old.state new) → IsKept pad (server_did old (Waited h) added)
-    waiting_keeps h =
-        same_keeps (Waited h) refl (λ port. refl) (λ port transfer r. r)
-        (λ a. record { opens = refl; moves = λ moved. refl }) h.is refl refl (λ from bytes e. e)
-        (Quiet (Woke h.ports) ∷ Quiet (Slept h.millis) ∷ Watched h.watch ∷ []) refl (tt, (tt, (tt, tt)))
-
-    -- ---- a receive at the request port without a datagram
-    finding_keeps : (h : FindsNoRequest stores sources old.state new) →
-        IsKept pad (server_did old (No_request_found h) added)
-    finding_keeps h =
-        same_keeps (No_request_found h) refl (λ port. refl) (λ port transfer r. r)
-        (λ a. record { opens = refl; moves = λ moved. refl }) h.is refl refl (λ from bytes e. e)
-        (Quiet (Empty old.state.requests) ∷ []) refl (tt, tt)
-
-    failing_keeps : (h : FailsToReceiveRequest stores sources old.state new) →
-        IsKept pad (server_did old (Request_not_received h) added)
-    failing_keeps h =
-        same_keeps (Request_not_received h) refl (λ port. refl) (λ port transfer r. r)
-        (λ a. record { opens = refl; moves = λ moved. refl }) h.is refl refl (λ from bytes e. e)
-        (Quiet (Failed old.state.requests) ∷ []) refl (tt, tt)
-
-    -- ---- a note of a request
-    noting_keeps : (h : NotesRequest stores sources old.state new) → IsKept pad (server_did old (Request_noted h) added)
-    noting_keeps h =
-        same_keeps (Request_noted h) refl (λ port. refl) (λ port transfer r. r)
-        (λ a. record { opens = refl; moves = λ moved. refl }) h.is refl refl (λ from bytes e. e)
-        (Quiet (note_event h.note) ∷ []) refl (tt, tt)
-
-    -- ---- a request is lost
-    losing_keeps : (h : LosesRequest stores sources old.state new) → IsKept pad (server_did old (Request_lost h) added)
-    losing_keeps h =
-        same_keeps (Request_lost h) refl (λ port. refl) (λ port transfer r. r) (λ a. record {
-          opens = refl;
-          moves
-              = λ moved. refl;
-        }) h.is refl refl (λ from bytes e. absurd (cc)) [] refl tt
-
-    -- ---- the clock is read
-    clock_keeps : (h : ReadsClock stores sources old.state new) → IsKept pad (server_did old (Clock_read h) added)
-    clock_keeps h =
-        same_keeps (Clock_read h) refl (λ port. refl) (λ port transfer r. r)
-        (λ a. record { opens = refl; moves = λ moved. refl }) h.is refl refl (λ from bytes e. e)
-        (Watched h.watch ∷ []) refl (tt, tt)
-
-    -- ---- a drain begins
-    draining_keeps : (h : BeginsDrain stores sources old.state new) → IsKept pad (server_did old (Drain_begun h) added)
-    draining_keeps h =
-        same_keeps (Drain_begun h) refl (λ port. refl) (λ port transfer r. r)
-        (λ a. record { opens = refl; moves = λ moved. refl }) h.is refl refl (λ from bytes e. e)
-        (Quiet Drain_signalled ∷ []) refl (tt, tt)
+        }) none (ap (λ s. s.held) server_same) added
+        (silent_by noted (ap (λ s. s.events) is ∙ e) (unsent_silent noted unsent))
 
     -- ---- the store is set
     store_keeps : (h : SetsStore stores sources old.state new) → IsKept pad (server_did old (Store_set h) added)
@@ -223,8 +159,7 @@ module _ {S F D G K : Type 0} {stores : StoreMeaning S D} {sources : SourceMeani
           datagram_keeps a.now old_fresh serves added events h is fresh_now a.come a.spelled (inr strange)
 
       ours_keeps : (h : Handles) → serves.does ≡ A_datagram h →
-          WasSentBefore old h.from (endpoint programs.ip port) h.bytes
-          ⊎ MayCome programs h.from h.bytes →
+          WasSentBefore old h.from (endpoint programs.ip port) h.bytes ⊎ MayCome programs h.from h.bytes →
           is_ours programs h.from ≡ true → (now : IsKept pad old) →
           IsThere now.messages (endpoint programs.ip port) h.from (error_bytes UnknownTransferId) →
           (place ≡ endpoint programs.ip port) ⊎ IsStrangers programs
@@ -264,28 +199,17 @@ module _ {S F D G K : Type 0} {stores : StoreMeaning S D} {sources : SourceMeani
           h.from h.bytes h.loses h.events
       by_case (A_timeout h) is =
           timeout_keeps kept old_fresh serves added events (quiet (A_timeout h) is (λ moved. refl)) h.step h.times_out
-      by_case (Nothing_found h) is =
-          missed_keeps kept old_fresh serves added events (quiet (Nothing_found h) is (λ moved. refl))
-          (Quiet (Empty serves.timer.port)) tt h.server h.events
-      by_case (A_late_datagram h) is =
-          missed_keeps kept old_fresh serves added events (quiet (A_late_datagram h) is (λ moved. refl))
-          (Received serves.timer.port h.from h.bytes) tt h.server h.events
-      by_case (A_failed_receive h) is =
-          missed_keeps kept old_fresh serves added events (quiet (A_failed_receive h) is (λ moved. refl))
-          (Quiet (Failed serves.timer.port)) tt h.server h.events
-      by_case (A_missed_timeout h) is =
-          missed_keeps kept old_fresh serves added events (quiet (A_missed_timeout h) is (λ moved. refl))
-          (Elapsed serves.timer.port old.state.now) tt h.server h.events
       by_case (Work h) is =
           work_keeps kept old_fresh serves added events (quiet (Work h) is (λ moved. refl)) h.works h.events
+      by_case does is =
+          missed_keeps kept old_fresh serves added events (quiet does is (λ moved. refl)) _ (search rules) (server_is does)
+          (trace_is does)
 
       port_keeps : IsKept pad (server_did old (At_port serves) added)
       port_keeps = by_case serves.does refl
 
   -- each step of the server
   pub serves_keep : AnswersKeep → ServerStepsKeep programs pad
-  serves_keep answers_keep old new (Waited h) added kept fresh events take =
-      waiting_keeps old new kept added events take h
   serves_keep answers_keep old new (At_port serves) added kept fresh events take =
       port_keeps old new kept added events take serves fresh
   serves_keep answers_keep old new (Request_received h) added kept fresh events take =
@@ -296,22 +220,30 @@ module _ {S F D G K : Type 0} {stores : StoreMeaning S D} {sources : SourceMeani
       (fresh.others programs.port (first_in programs.port (our_ports programs old.run)))))
       (request_came old new kept added events take h) in
       receiving_keeps old new a.now added events take h a.come
-  serves_keep answers_keep old new (No_request_found h) added kept fresh events take =
-      finding_keeps old new kept added events take h
-  serves_keep answers_keep old new (Request_not_received h) added kept fresh events take =
-      failing_keeps old new kept added events take h
-  serves_keep answers_keep old new (Request_noted h) added kept fresh events take =
-      noting_keeps old new kept added events take h
   serves_keep answers_keep old new (Request_answered h) added kept fresh events take =
       answers_keep old new h added kept fresh events take
   serves_keep answers_keep old new (Request_lost h) added kept fresh events take =
-      losing_keeps old new kept added events take h
-  serves_keep answers_keep old new (Clock_read h) added kept fresh events take =
-      clock_keeps old new kept added events take h
+      same_keeps old new kept added events take (Request_lost h) refl (λ port. refl) (λ port transfer r. r)
+      (λ a. record { opens = refl; moves = λ moved. refl }) h.is refl refl (λ from bytes e. absurd (cc)) [] refl tt
+  serves_keep answers_keep old new (Waited h) added kept fresh events take =
+      same_keeps old new kept added events take (Waited h) refl (λ port. refl) (λ port transfer r. r)
+      (λ a. record { opens = refl; moves = λ moved. refl }) h.is refl refl (λ from bytes e. e)
+      (Quiet (Woke h.ports) ∷ Quiet (Slept h.millis) ∷ Watched h.watch ∷ []) refl (tt, (tt, (tt, tt)))
   serves_keep answers_keep old new (Store_set h) added kept fresh events take =
       store_keeps old new kept added events take h
   serves_keep answers_keep old new (Transfer_closed h) added kept fresh events take =
       closing_keeps kept h added (silent_by old new kept added events take (Printed _ ∷ [])
       (ap (λ (s : LoopState S F D). s.events) h.is) (printed_silent _))
-  serves_keep answers_keep old new (Drain_begun h) added kept fresh events take =
-      draining_keeps old new kept added events take h
+  serves_keep answers_keep old new does added kept fresh events take =
+      same_keeps old new kept added events take does refl (λ port. refl) (λ port transfer r. r)
+      (λ a. record { opens = refl; moves = λ moved. refl }) (state_is does) refl refl (λ from bytes e. e)
+      (_ ∷ []) refl (search rules)
+
+  -- Each step of the server keeps the invariant.
+  -- a request that the server answers
+  pub answers_keep : AnswersKeep
+  answers_keep old new answers added kept fresh events take = request_keeps kept answers added events fresh
+
+  -- each step
+  pub server_steps_keep : ServerStepsKeep programs pad
+  server_steps_keep = serves_keep answers_keep

@@ -1,15 +1,13 @@
 -- A step of a transfer over any files, by what the finished run moved.
-use Rattle.tftp_promises.proofs.Common.{◌≡◌, ℕ, Bool, true, false, List, length, None, refl, sym, ap, ◌∙◌, subst, ⊤}
-use Rattle.tftp_promises.proofs.Common.{IsPrefixOf, Holding, SourceMeaning, Files, Source, Sink, datagram_action}
-use Rattle.tftp_promises.proofs.Common.{is_sender, outcome_of, AreSame, Turn, DatagramStep, StoreMeaning, Opening}
-use Rattle.tftp_promises.proofs.Common.{Drafting, files_in, drafting_sink, StepIn, EndKept, known_source, known_sink}
-use Rattle.tftp_promises.proofs.Common.{Endpoint, Network, OpenEnd, files_of, end_after, GaveSince, Moved, step_moves}
-use Rattle.tftp_promises.proofs.DraftsTake.{complete_responds, fate_takes}
-use Rattle.tftp_promises.proofs.GivenSteps.{step_gives}
+use Rattle.tftp_promises.proofs.Common.{List, ℕ, ◌≡◌, sym, Endpoint, refl, ◌∙◌, ap, SourceMeaning, subst, StoreMeaning}
+use Rattle.tftp_promises.proofs.Common.{false, true, None, Bool, Files, length, outcome_of, OpenEnd, is_sender, Turn}
+use Rattle.tftp_promises.proofs.Common.{Moved, Sink, Source, IsPrefixOf, DatagramStep, drafting_sink, end_after}
+use Rattle.tftp_promises.proofs.Common.{datagram_action, GaveSince, Network, EndKept, Holding, known_sink, known_source}
+use Rattle.tftp_promises.proofs.Common.{files_of, Opening, AreSame, files_in, ⊤, step_moves, Drafting, StepIn}
+use Rattle.tftp_promises.proofs.MovedStores.{complete_responds, fate_takes, sink_moves}
+use Rattle.tftp_promises.proofs.MovedSends.{step_gives, source_moves}
 use Rattle.tftp_promises.proofs.Invariant.{GaveSo, TookBy, TookSo}
-use Rattle.tftp_promises.proofs.KeptFiles.{source_is, sink_is}
-use Rattle.tftp_promises.proofs.MovedSends.{source_moves}
-use Rattle.tftp_promises.proofs.MovedStores.{sink_moves}
+use Rattle.tftp_promises.proofs.KeptDoes.{source_is, sink_is}
 use Rattle.tftp_promises.proofs.Texts.{pad_length, pad_to}
 
 module _ {S F D : Type 0} (stores : StoreMeaning S D) (sources : SourceMeaning F) (IsFirst : Opening F → Type 0)
@@ -43,11 +41,9 @@ module _ {S F D : Type 0} (stores : StoreMeaning S D) (sources : SourceMeaning F
   module _ (x : OpenEnd) (network : Network) (kept : EndKept network x)
       (still : outcome_of x.state.position.phase ≡ None) (from : Endpoint) (bytes : List ℕ) (turn : Turn)
       (store store' : S) (been : HasBeen store') (path' : List ℕ) (pad : ℕ) (all : List ℕ)
-      (text : is_sender x.state.role.side ≡ true → x.text ≡ pad_to pad x.state.role.length all)
-      (moved : Moved) where
+      (text : is_sender x.state.role.side ≡ true → x.text ≡ pad_to pad x.state.role.length all) (moved : Moved) where
     pub files_move : (files files' : Files F D) → AreSame (λ (a b : F). ⊤) (λ (a b : D). ⊤) files files' →
-        GotSo files x moved →
-        (step : StepIn stores sources from bytes x.state (files_in store path replace files) turn
+        GotSo files x moved → (step : StepIn stores sources from bytes x.state (files_in store path replace files) turn
         (files_in store' path' replace files')) →
         IsPrefixOf (step_moves sources (drafting_sink stores) from bytes x.state (files_in store path replace files)
         turn (files_in store' path' replace files') step moved).bytes all →

@@ -1,37 +1,34 @@
 -- A step of a sender over any source is one over the text that the finished run tells.
-use Rattle.tftp_promises.proofs.Common.{◌≡◌, ℕ, ◌+◌, ◌*◌, ◌≤◌, Bool, true, false, List, [], ◌++◌, append_assoc}
-use Rattle.tftp_promises.proofs.Common.{append-nil, length, take, drop, Option, Some, None, Result, Ok, Err, refl, sym}
-use Rattle.tftp_promises.proofs.Common.{ap, ◌∙◌, subst, arith, rules, ◌≢◌, ◌&&◌, if◌then◌else◌, is_none, true≢false}
-use Rattle.tftp_promises.proofs.Common.{length-append, Read, Ack, has_error_opcode, Asked, Refusal, IsPrefixOf}
-use Rattle.tftp_promises.proofs.Common.{SinkMeaning, SourceMeaning, Source, Action, Respond, Send, Store, Ignore}
-use Rattle.tftp_promises.proofs.Common.{WrongPeer, FileChanged, Phase, Sending, Terms, datagram_action, packet_action}
-use Rattle.tftp_promises.proofs.Common.{garbled_response, is_wrong_peer, is_sender, is_client, outcome_of, terms_of}
-use Rattle.tftp_promises.proofs.Common.{Turn, Acts, DatagramStep, block_length, data_bytes, filled_turn, refused_turn}
-use Rattle.tftp_promises.proofs.Common.{result_count_is, sent_turn, begin_action, writer_action, EndKept, known_source}
-use Rattle.tftp_promises.proofs.Common.{known_sink, Network, OpenEnd, end_after, if_acts, Moved, acts_move, step_moves}
-use Rattle.std.proofs.Common.{◌-◌}
-use Rattle.std.proofs.lemmas.List.{length-drop}
-use Rattle.tftp_wire.specs.declared.packet.Packet.{Packet as WirePacket}
-use Rattle.tftp_negotiate.specs.declared.known.Kind.TheVariants as kinds
-use Rattle.tftp_negotiate.specs.declared.refusal.Refusal.TheVariants as refusals
+use Rattle.tftp_promises.proofs.Common.{List, ℕ, ◌≡◌, rules, sym, Endpoint, refl, [], ◌∙◌, ap, SourceMeaning, Some}
+use Rattle.tftp_promises.proofs.Common.{subst, SinkMeaning, false, true, None, ◌++◌, Bool, EndState, Files, Option}
+use Rattle.tftp_promises.proofs.Common.{true≢false, arith, ◌≢◌, length, outcome_of, OpenEnd, if◌then◌else◌, is_sender}
+use Rattle.tftp_promises.proofs.Common.{Turn, Moved, Source, WirePacket, ◌≤◌, IsPrefixOf, after_turn, ◌+◌, Ok}
+use Rattle.tftp_promises.proofs.Common.{is_client, DatagramStep, Action, append_assoc, Ack, Acts, Respond, end_after}
+use Rattle.tftp_promises.proofs.Common.{datagram_action, ◌*◌, Terms, GaveSince, ◌&&◌, Network, EndKept}
+use Rattle.tftp_promises.proofs.Common.{has_error_opcode, Result, Store, Phase, known_sink, known_source, Err, Asked}
+use Rattle.tftp_promises.proofs.Common.{Send, terms_of, step_moves, block_length, if_acts, data_bytes, writer_action}
+use Rattle.tftp_promises.proofs.Common.{take, WrongPeer, packet_action, Ignore, is_wrong_peer, garbled_response}
+use Rattle.tftp_promises.proofs.Common.{length-append, is_none, drop, acts_move, Sending, GivesInTurn, FileChanged}
+use Rattle.tftp_promises.proofs.Common.{Gave_more, filled_turn, PhaseKept, with_more, sent_turn, sender_action}
+use Rattle.tftp_promises.proofs.Common.{result_count_is, begin_action, refused_turn}
+use Rattle.std.proofs.Common.{append-nil, ◌-◌}
+use Rattle.std.proofs.lemmas.List.{length-drop, nil_from_length}
 use Rattle.tftp_file.specs.Source.{Fills}
 use Rattle.tftp_file.specs.declared.fault.FileFault.{FileFault}
-use Rattle.tftp_file.specs.declared.fault.FileFault.TheVariants as file_faults
-use Rattle.tftp_ends.specs.declared.endpoint.Endpoint.{Endpoint}
-use Rattle.tftp_ends.specs.declared.outcome.Outcome.TheVariants as outcomes
-use Rattle.tftp_ends.specs.Sender.{sender_action}
 use Rattle.tftp_ends.specs.Step.{Sends}
-use Rattle.tftp_rules.specs.EndKept.{PhaseKept, IsUnderWay}
-use Rattle.tftp_promises.specs.Moved.{with_more}
+use Rattle.tftp_rules.specs.EndKept.{IsUnderWay}
+use Rattle.tftp_negotiate.specs.declared.known.Kind.TheVariants as kinds
+use Rattle.tftp_negotiate.specs.declared.refusal.Refusal.TheVariants as refusals
+use Rattle.tftp_file.specs.declared.fault.FileFault.TheVariants as file_faults
+use Rattle.tftp_ends.specs.declared.outcome.Outcome.TheVariants as outcomes
 use Rattle.tftp_promises.proofs.Invariant.{GaveSo}
 use Rattle.tftp_promises.proofs.Texts.{pad_to, pad_length, begins_padded, begins_after, begins_by_take, then_rest}
 
 -- ---- how much an action reads
 -- an action reads no more than is left
 abbrev pub ReadsWithin : ℕ → List ℕ → Action → Type 0
-ReadsWithin measured left (Respond response) = Unit {0}
 ReadsWithin measured left (Send terms number) = block_length measured terms.size number ≤ length left
-ReadsWithin measured left (Store terms number) = Unit {0}
+ReadsWithin measured left action = Unit {0}
 
 next_within : (measured size number n : ℕ) → measured ≡ n → block_length measured size (number + 1) ≤ n - number * size
 next_within measured size number n e = search rules
@@ -74,8 +71,7 @@ module _ (x : OpenEnd) (sender : is_sender x.state.role.side ≡ true) (from : E
         packet_action x.state from decoded x.state.position.phase)
         (λ b. if_acts Within (has_error_opcode bytes) (Respond Ignore) (Respond WrongPeer) (λ c. tt) (λ c. tt))
         (λ b. if_acts Within (has_error_opcode bytes && is_none decoded)
-        (Respond (garbled_response x.state.position.phase))
-        (packet_action x.state from decoded x.state.position.phase)
+        (Respond (garbled_response x.state.position.phase)) (packet_action x.state from decoded x.state.position.phase)
         (λ c. tt) (λ c. by_phase x.state.position.phase kept.phase))
 
 -- ---- what was read
@@ -190,8 +186,7 @@ module _ {S K : Type 0} (sources : SourceMeaning S) (sinks : SinkMeaning K) (x :
 
   source_acts : (action : Action) → ReadsWithin x.state.role.length x.left action →
       (bytes : List ℕ) (acts : Acts sources sinks action from bytes x.state (Source s) turn (Source s')) →
-      IsPrefixOf (acts_move sources sinks action from bytes x.state (Source s) turn (Source s') acts moved).bytes
-      all →
+      IsPrefixOf (acts_move sources sinks action from bytes x.state (Source s) turn (Source s') acts moved).bytes all →
       SourceMoves x turn (acts_move sources sinks action from bytes x.state (Source s) turn (Source s') acts moved)
       (λ (left : List ℕ). Acts known_source known_sink action from bytes x.state (Source x.left) turn (Source left))
   source_acts (Respond response) within bytes acts told = record {
@@ -223,3 +218,95 @@ module _ {S K : Type 0} (sources : SourceMeaning S) (sinks : SinkMeaning K) (x :
         };
         gave = h.gave;
       }
+
+-- What a source has given since it was opened, after a step of its end, or after its own work.
+
+-- a fill of no bytes gives none
+at_most : (before after : Option (List ℕ)) (wants : ℕ) (piece : List ℕ) (answer : Result ℕ FileFault) →
+    Fills before after wants [] piece answer → length piece ≤ wants
+at_most before after wants piece answer f = search rules
+
+module _ {S : Type 0} {sources : SourceMeaning S} where
+  -- all that it gave was sent
+  pub gave_first : {first last : S} {e : EndState} {bytes : List ℕ} → GivesInTurn sources first bytes last →
+      GaveSince sources first e bytes last
+  gave_first {first = first} {last = last} {bytes = bytes} h = search rules
+
+  -- a call that gave no bytes
+  pub gave_none : {first before after : S} {e : EndState} {bytes : List ℕ} → GaveSince sources first e bytes before →
+      sources.gives before [] after → GaveSince sources first e bytes after
+  gave_none {first = first} {after = after} {bytes = bytes} h none =
+      search (subst (λ (t : List ℕ). GivesInTurn sources first t after) (append-nil (bytes ++ h.rest))
+      (Gave_more h.given none))
+
+  -- at another position, which is open only if the end was
+  pub gave_still : {first last : S} {e e' : EndState} {bytes : List ℕ} → e'.role ≡ e.role →
+      (outcome_of e'.position.phase ≡ None → outcome_of e.position.phase ≡ None) →
+      GaveSince sources first e bytes last → GaveSince sources first e' bytes last
+  gave_still role still h = search rules
+
+module _ {S K : Type 0} (sources : SourceMeaning S) (sinks : SinkMeaning K) (x : OpenEnd) (from : Endpoint)
+    (first s s' : S) (turn : Turn) (moved : Moved) (gave : GaveSo x moved)
+    (since : GaveSince sources first x.state moved.bytes s) (still : outcome_of x.state.position.phase ≡ None)
+    (measured : length x.text ≡ x.state.role.length) where
+  abbrev wants : Terms → ℕ → ℕ
+  wants terms number = block_length x.state.role.length terms.size number
+
+  abbrev Since : List ℕ → Type 0
+  Since bytes = GaveSince sources first (after_turn x.state turn) bytes s'
+
+  -- all was sent before
+  before : GivesInTurn sources first moved.bytes s
+  before = search rules
+
+  all_given : (terms : Terms) (number : ℕ) (h : Sends sources terms number from x.state s turn s') →
+      Since (moved.bytes ++ h.piece)
+  all_given terms number h = record {
+    rest = [];
+    given = rw ((append-nil (moved.bytes ++ h.piece))) (Gave_more before h.gives);
+    going = λ o. refl;
+    whole = λ l. refl;
+  }
+
+  -- a block that was not read has no bytes, if all was sent
+  no_piece : (terms : Terms) (number : ℕ) (h : Sends sources terms number from x.state s turn s') →
+      wants terms number ≤ length x.left → length (moved.bytes ++ []) ≡ x.state.role.length → h.piece ≡ []
+  no_piece terms number h within all = search (rules, at_most, length-append, nil_from_length)
+
+  -- the end is closed then
+  closed : (terms : Terms) (number : ℕ) (h : Sends sources terms number from x.state s turn s') →
+      result_count_is (wants terms number) h.answer ≡ false →
+      turn ≡ refused_turn terms FileChanged outcomes.SourceFault from x.state
+  closed terms number h count = search rules
+
+  given_none : (terms : Terms) (number : ℕ) (h : Sends sources terms number from x.state s turn s') →
+      wants terms number ≤ length x.left → result_count_is (wants terms number) h.answer ≡ false →
+      Since (moved.bytes ++ [])
+  given_none terms number h within count = record {
+    rest = h.piece;
+    given = rw (← ap (λ (t : List ℕ). t ++ h.piece) (sym (append-nil moved.bytes))) (Gave_more before h.gives);
+    going = λ o. absurd (let f : Some outcomes.SourceFault ≡ None =
+        ap (λ (t : Turn). outcome_of t.position.phase) (sym (closed terms number h count)) ∙ o in cc);
+    whole = λ all. no_piece terms number h within all;
+  }
+
+  given_either : (terms : Terms) (number : ℕ) (h : Sends sources terms number from x.state s turn s') →
+      wants terms number ≤ length x.left → (b : Bool) → result_count_is (wants terms number) h.answer ≡ b →
+      Since (moved.bytes ++ (if b then h.piece else []))
+  given_either terms number h within true count = all_given terms number h
+  given_either terms number h within false count = given_none terms number h within count
+
+  -- the source is as it was
+  same_source : (a b : S) → ◌≡◌ {A = Files S K} (Source a) (Source b) → a ≡ b
+  same_source a b e = cc
+
+  acts_give : (action : Action) → ReadsWithin x.state.role.length x.left action →
+      (bytes : List ℕ) (acts : Acts sources sinks action from bytes x.state (Source s) turn (Source s')) →
+      Since (acts_move sources sinks action from bytes x.state (Source s) turn (Source s') acts moved).bytes
+  acts_give action within bytes acts = search (rules, same_source, before, all_given, given_either)
+
+  -- a step
+  pub step_gives : (network : Network) → EndKept network x → is_sender x.state.role.side ≡ true →
+      (bytes : List ℕ) (step : DatagramStep sources sinks from bytes x.state (Source s) turn (Source s')) →
+      Since (step_moves sources sinks from bytes x.state (Source s) turn (Source s') step moved).bytes
+  step_gives network kept sender bytes step = search (rules, acts_give, reads_within)

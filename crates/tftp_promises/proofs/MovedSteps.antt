@@ -1,22 +1,17 @@
 -- What has moved at the place of a transfer after a step of the server, and after a run; and where a step leaves the
 -- transfers.
-use Rattle.tftp_promises.proofs.Common.{◌≡◌, ℕ, Bool, true, false, List, [], ◌∷◌, Option, Some, None, refl, sym, ap}
-use Rattle.tftp_promises.proofs.Common.{◌∙◌, subst, inl, inr, ◌≢◌, ◌==◌, if◌then◌else◌, option_map, option_to_list}
-use Rattle.tftp_promises.proofs.Common.{Contains, true≢false, Contains-push, IsPrefixOf, SinkMeaning, SourceMeaning}
-use Rattle.tftp_promises.proofs.Common.{Files, Action, Respond, Send, Store, EndState, Turn, Acts, StoreMeaning, Came}
-use Rattle.tftp_promises.proofs.Common.{Nothing, Error_reply, A_transfer, left_by, TransferState, LoopState, LoopStep}
-use Rattle.tftp_promises.proofs.Common.{At_port, Request_answered, ServesPort, AnswersRequest, PortStep, PortState, Run}
-use Rattle.tftp_promises.proofs.Common.{Then, State, HandlesReceived, Answers, Loses, is_same, same_self, ClientDoes}
-use Rattle.tftp_promises.proofs.Common.{Receives_one, Reads_clock, Waits_until, Times_out, File_works, Prints_line}
-use Rattle.tftp_promises.proofs.Common.{client_moves, Moved, acts_move, came_if, port_moves, place, place_at, Programs}
-use Rattle.tftp_promises.proofs.Common.{opened_ports}
-use Rattle.std.specs.Prelude.{length, map}
-use Rattle.tftp_ends.specs.declared.endpoint.Endpoint.{Endpoint}
-use Rattle.tftp_loop.specs.Steps.{A_datagram}
-use Rattle.tftp_rules.proofs.Endpoints.{cases_same, same_other}
-use Rattle.tftp_promises.specs.Moved.{handling_moves, opening_moves}
-use Rattle.tftp_promises.specs.Openings.{does_move, opens_at, or_place}
-use Rattle.tftp_promises.proofs.RunPlaces.{placed_by}
+use Rattle.tftp_promises.proofs.Common.{List, ℕ, ◌≡◌, rules, sym, Endpoint, refl, [], ap, SourceMeaning, subst}
+use Rattle.tftp_promises.proofs.Common.{StoreMeaning, ◌∷◌, SinkMeaning, false, true, None, Programs, Bool, EndState}
+use Rattle.tftp_promises.proofs.Common.{Contains, Files, Option, ◌≢◌, LoopState, length, TransferState, LoopStep}
+use Rattle.tftp_promises.proofs.Common.{if◌then◌else◌, Run, Turn, State, Moved, Contains-push, IsPrefixOf, A_transfer}
+use Rattle.tftp_promises.proofs.Common.{Receives_one, map, place_at, ClientDoes, Action, Came, PortStep}
+use Rattle.tftp_promises.proofs.Common.{Request_answered, Answers, Acts, Respond, PortState, AnswersRequest}
+use Rattle.tftp_promises.proofs.Common.{HandlesReceived, Loses, opened_ports, Store, option_to_list, place, Send}
+use Rattle.tftp_promises.proofs.Common.{came_if, client_moves, ServesPort, acts_move, port_moves, same_self, is_same}
+use Rattle.tftp_promises.proofs.Common.{opening_moves, opens_at, handling_moves, same_other}
+use Rattle.tftp_loop.specs.Steps.{At_port, A_datagram}
+use Rattle.tftp_promises.specs.Openings.{does_move}
+use Rattle.tftp_promises.proofs.Places.{placed_by}
 use Rattle.tftp_promises.proofs.Texts.{begins_itself, begins_more}
 
 -- ---- what moved before begins what has moved after
@@ -41,43 +36,30 @@ module _ {G K : Type 0} {inputs : SourceMeaning G} {outputs : SinkMeaning K} {po
   pub client_more : {s s' : State} {files files' : Files G K} (does : ClientDoes inputs outputs port s files s' files')
       (moved : Moved) → IsPrefixOf moved.bytes (client_moves does moved).bytes
   client_more (Receives_one may later handles) moved = handling_more handles moved
-  client_more (Reads_clock progress later) moved = begins_itself moved.bytes
-  client_more (Waits_until may which later) moved = begins_itself moved.bytes
-  client_more (Times_out elapses) moved = begins_itself moved.bytes
-  client_more (File_works works) moved = begins_itself moved.bytes
-  client_more (Prints_line line) moved = begins_itself moved.bytes
+  client_more does moved = begins_itself moved.bytes
 
 either_more : (b : Bool) (moved after : Moved) → IsPrefixOf moved.bytes after.bytes →
     IsPrefixOf moved.bytes (if b then after else moved).bytes
 either_more true moved after h = h
 either_more false moved after h = begins_itself moved.bytes
 
-same_either : (b : Bool) (moved after : Moved) → after ≡ moved → (if b then after else moved) ≡ moved
-same_either true moved after e = e
-same_either false moved after e = refl
-
 module _ {F D : Type 0} where
   opening_more : (o : Option (TransferState F D)) (moved : Moved) → o ≡ None →
       IsPrefixOf moved.bytes (opening_moves o moved).bytes
-  opening_more None moved e = begins_itself moved.bytes
-  opening_more (Some held) moved e = absurd (let f : Some held ≡ None = e in cc)
+  opening_more o moved e = search rules
 
 -- endpoints that are the same are one
 one_endpoint : (a b : Endpoint) → is_same a b ≡ true → a ≡ b
-one_endpoint a b e = elim (cases_same a b) [
-  | inl same ↦ same
-  | inr n ↦ absurd (true≢false (sym e ∙ same_other a b n))
-]
+one_endpoint a b e = search rules
 
 module _ {S F D : Type 0} where
   -- a transfer that does not come here
   came_none : (here : Bool) (came : Came S F D) →
       (here ≡ true → (held : TransferState F D) (store : S) → came ≡ A_transfer held store → ⊥) →
       came_if here came ≡ None
-  came_none here Nothing n = refl
-  came_none here (Error_reply reply store) n = refl
   came_none true (A_transfer held store) n = absurd (n refl held store refl)
   came_none false (A_transfer held store) n = refl
+  came_none here came n = refl
 
 module _ {S F D : Type 0} {stores : StoreMeaning S D} {sources : SourceMeaning F} where
   port_more : {now : ℕ} {old new : PortState S F D} (does : PortStep stores sources now old new) (moved : Moved) →
@@ -88,8 +70,7 @@ module _ {S F D : Type 0} {stores : StoreMeaning S D} {sources : SourceMeaning F
   port_more does moved = begins_itself moved.bytes
 
 module _ {S F D G K : Type 0} {stores : StoreMeaning S D} {sources : SourceMeaning F} {inputs : SourceMeaning G}
-    {outputs : SinkMeaning K}
-    (programs : Programs stores sources inputs outputs) {first old new : LoopState S F D}
+    {outputs : SinkMeaning K} (programs : Programs stores sources inputs outputs) {first old new : LoopState S F D}
     (run : Run (LoopStep stores sources) first old) where
   -- of the server, at a place where it opens no transfer
   pub server_more : (a : Endpoint) (does : LoopStep stores sources old new) (moved : Moved) →
@@ -106,9 +87,7 @@ module _ {S F D G K : Type 0} {stores : StoreMeaning S D} {sources : SourceMeani
   -- the port of a transfer that comes
   came_port : (answers : AnswersRequest stores sources old new) (held : TransferState F D) (store : S) →
       answers.steps.came ≡ A_transfer held store → option_to_list answers.left.opened.tid ≡ answers.tid ∷ []
-  came_port answers held store came =
-      ap (λ (l : _). option_to_list l.opened.tid)
-      (answers.steps.left ∙ ap (λ (c : Came S F D). left_by c old.server answers.from answers.tid) came)
+  came_port answers held store came = search rules
 
   answer_opens_none : (answers : AnswersRequest stores sources old new) (a : Endpoint) →
       (Contains (placed_by programs run (Request_answered answers)) a → ⊥) →
@@ -127,18 +106,6 @@ module _ {S F D G K : Type 0} {stores : StoreMeaning S D} {sources : SourceMeani
   opens_none (Request_answered answers) a n = answer_opens_none answers a n
   opens_none does a n = refl
 
-  -- a request that opens no transfer leaves the transfers where they were
-  pub answer_places_none : (answers : AnswersRequest stores sources old new) (port : ℕ) →
-      option_to_list answers.left.opened.tid ≡ [] →
-      place_at programs port (Then run (Request_answered answers)) ≡ place_at programs port run
-  answer_places_none answers port none =
-      let came =
-      came_none (answers.tid == port) answers.steps.came (λ same held store came. let two : answers.tid ∷ []
-      ≡ [] = sym (came_port answers held store came) ∙ none in cc) in
-      ap (λ (o : Option (TransferState F D)). or_place
-      (option_map (λ (held : TransferState F D). place programs (length (opened_ports run)) answers.from port) o)
-      (place_at programs port run)) came
-
   -- ---- a step at which nothing moves at a place
   pub record MovesNone (does : LoopStep stores sources old new) (a : Endpoint) : Type 0 where
     pub opens : opens_at programs a run does ≡ None
@@ -147,34 +114,20 @@ module _ {S F D G K : Type 0} {stores : StoreMeaning S D} {sources : SourceMeani
   -- a step at the port of a transfer that is no datagram
   pub none_at_port : (serves : ServesPort stores sources old new) →
       ((moved : Moved) → port_moves serves.does moved ≡ moved) → (a : Endpoint) → MovesNone (At_port serves) a
-  none_at_port serves quiet a =
-      record {
-        opens = refl;
-        moves = λ moved. same_either (is_same (place_at programs serves.timer.port run)
-            a) moved (port_moves serves.does moved) (quiet moved);
-      }
+  none_at_port serves quiet a = search rules
 
   -- one at another place
   pub none_beside : (serves : ServesPort stores sources old new) (a : Endpoint) →
       place_at programs serves.timer.port run ≢ a → MovesNone (At_port serves) a
-  none_beside serves a n = record {
-    opens = refl;
-    moves =
-        λ moved. ap (λ (b : Bool). if b then port_moves serves.does moved else moved)
-        (same_other (place_at programs serves.timer.port run) a n);
-  }
+  none_beside serves a n = search (rules, port_moves, same_other, place_at)
 
   -- a datagram at its own place
   pub moves_here : (serves : ServesPort stores sources old new) (moved : Moved) →
       does_move programs (place_at programs serves.timer.port run) run (At_port serves) moved ≡ port_moves serves.does
       moved
-  moves_here serves moved =
-      ap (λ (b : Bool). if b then port_moves serves.does moved else moved)
-      (same_self (place_at programs serves.timer.port run))
+  moves_here serves moved = search (rules, port_moves, same_self, place_at)
 
   -- a request that opens no transfer there
   pub none_answered : (answers : AnswersRequest stores sources old new) (a : Endpoint) →
       (Contains (placed_by programs run (Request_answered answers)) a → ⊥) → MovesNone (Request_answered answers) a
-  none_answered answers a n =
-      let none = answer_opens_none answers a n in
-      record { opens = none; moves = λ moved. ap (λ (o : Option (TransferState F D)). opening_moves o moved) none }
+  none_answered answers a n = search (rules, answer_opens_none, opening_moves)

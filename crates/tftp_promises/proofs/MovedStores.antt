@@ -1,22 +1,23 @@
 -- A step of a receiver over any sink is one over what the sink was handed.
-use Rattle.tftp_promises.proofs.Common.{◌≡◌, ℕ, Bool, true, false, List, [], ◌∷◌, ◌++◌, append-nil, Some, Result, Ok}
-use Rattle.tftp_promises.proofs.Common.{Err, refl, None, sym, ap, ◌∙◌, subst, inl, inr, rules, ◌≢◌, ◌⊎◌, nat_lt}
-use Rattle.tftp_promises.proofs.Common.{true≢false, Holding, SinkMeaning, SourceMeaning, StoreFault, Files, Sink}
-use Rattle.tftp_promises.proofs.Common.{Action, Respond, Send, Store, ErrorReply, Terms, datagram_action, EndState}
-use Rattle.tftp_promises.proofs.Common.{outcome_of, Done, Turn, GoesOn, Acts, DatagramStep, committed_turn, holding}
-use Rattle.tftp_promises.proofs.Common.{refused_turn, known_source, known_sink, OpenEnd, end_after, Moved, acts_move}
-use Rattle.tftp_promises.proofs.Common.{step_moves}
-use Rattle.std.specs.Prelude.{◌||◌, is_ok, length, IfErr}
+use Rattle.tftp_promises.proofs.Common.{List, ℕ, ◌≡◌, rules, sym, Endpoint, refl, [], ◌∙◌, ap, SourceMeaning, Some}
+use Rattle.tftp_promises.proofs.Common.{subst, inl, StoreMeaning, inr, ◌∷◌, SinkMeaning, false, true, None, ◌++◌, Bool}
+use Rattle.tftp_promises.proofs.Common.{EndState, ◌⊎◌, Files, Option, true≢false, ◌≢◌, length, outcome_of, OpenEnd}
+use Rattle.tftp_promises.proofs.Common.{Turn, Moved, Sink, WirePacket, cases_Bool, Ok, DatagramStep, Action}
+use Rattle.tftp_promises.proofs.Common.{is_complete, drafting_sink, Acts, Respond, end_after, datagram_action, Terms}
+use Rattle.tftp_promises.proofs.Common.{Holding, Result, Store, known_sink, known_source, Err, nat_lt, Send, step_moves}
+use Rattle.tftp_promises.proofs.Common.{Drafting, StoreFault, ErrorReply, Done, committed_turn, TakesInTurn, acts_move}
+use Rattle.tftp_promises.proofs.Common.{with_more, refused_turn, WasCommitted, holding, GoesOn, holding_of}
+use Rattle.std.proofs.Common.{append-nil}
+use Rattle.std.specs.Prelude.{◌||◌, is_ok, IfErr}
 use Rattle.std.specs.Result.{result_err}
 use Rattle.tftp_file.specs.Sink.{CommitsFreely, UnlessArmed, as_committed, with_piece}
+use Rattle.tftp_ends.specs.Step.{Appended, Stores}
+use Rattle.tftp_store.specs.Drafts.{Took_more, Written_back}
 use Rattle.tftp_file.specs.declared.fault.StoreFault.TheVariants as faults
-use Rattle.tftp_ends.specs.declared.endpoint.Endpoint.{Endpoint}
 use Rattle.tftp_ends.specs.declared.error_reply.ErrorReply.TheVariants as replies
 use Rattle.tftp_ends.specs.declared.outcome.Outcome.TheVariants as outcomes
-use Rattle.tftp_ends.specs.Step.{Appended, Stores}
-use Rattle.tftp_rules.specs.OpenEnds.{holding_of}
-use Rattle.tftp_promises.specs.Moved.{commits_after, with_more}
-use Rattle.tftp_promises.proofs.Invariant.{TookSo}
+use Rattle.tftp_promises.specs.Moved.{commits_after}
+use Rattle.tftp_promises.proofs.Invariant.{TookSo, TookBy}
 
 -- a fault that anything may return
 any_fault : {A E : Type 0} (answer : Result A E) (P : E → Type 0) → ((fault : E) → P fault) → IfErr answer P
@@ -216,8 +217,7 @@ module _ {S K : Type 0} (sources : SourceMeaning S) (sinks : SinkMeaning K) (fro
           fate = record {
             going =
                 λ o c. let g = goes.going o c in
-                subst (λ (z : K). Appended sinks h.bytes k z (Ok tt)) (sym g.1)
-                (appended terms number piece h g.0);
+                subst (λ (z : K). Appended sinks h.bytes k z (Ok tt)) (sym g.1) (appended terms number piece h g.0);
             done = λ c. elim (goes.done c) [
               | inl was ↦ inl (handed_committed h.bytes before was)
               | inr d ↦ inr (h.mid, appended terms number piece h d.0, d.1)
@@ -229,8 +229,7 @@ module _ {S K : Type 0} (sources : SourceMeaning S) (sinks : SinkMeaning K) (fro
         (Sink k')) →
         SinkMoves x turn (acts_move sources sinks action from bytes x.state (Sink k) turn (Sink k') acts moved)
         (λ (after : Holding). Acts known_source known_sink action from bytes x.state (Sink (holding_of x)) turn
-        (Sink after))
-        (λ (after : Holding). Fate sinks turn x.committed k k' action moved.bytes
+        (Sink after)) (λ (after : Holding). Fate sinks turn x.committed k k' action moved.bytes
         (acts_move sources sinks action from bytes x.state (Sink k) turn (Sink k') acts moved).bytes after.committed)
     sink_acts (Respond response) bytes acts = record {
       after = holding_of x;
@@ -264,3 +263,75 @@ module _ {S K : Type 0} (sources : SourceMeaning S) (sinks : SinkMeaning K) (fro
           took = h.took;
           fate = h.fate;
         }
+
+-- What the draft of a transfer has taken since it was begun, after a step of its end, or after its own work.
+
+-- an action that leaves the files as they are
+abbrev pub IsResponse : Action → Type 0
+IsResponse (Respond response) = Unit {0}
+IsResponse action = ⊥
+
+-- a complete end stores nothing more
+pub complete_responds : (e : EndState) (from : Endpoint) (bytes : List ℕ) (decoded : Option WirePacket) →
+    is_complete e.position.phase ≡ true → IsResponse (datagram_action e from bytes decoded)
+complete_responds e from bytes decoded c = search rules
+
+module _ {S D : Type 0} (stores : StoreMeaning S D) where
+  -- a draft that was handed these bytes, and refused none
+  append_takes : (first : D) (bytes taken : List ℕ) (d mid : Drafting S D) →
+      Appended (drafting_sink stores) bytes d mid (Ok tt) → TakesInTurn stores first taken d.draft →
+      TakesInTurn stores first (taken ++ bytes) mid.draft
+  append_takes first [] taken d mid a t = search rules
+  append_takes first (b ∷ bytes) taken d mid a t = Took_more d.store mid.store t a.3.0
+
+  -- under the same path, to replace a file or not as before
+  append_path : (bytes : List ℕ) (d mid : Drafting S D) → Appended (drafting_sink stores) bytes d mid (Ok tt) →
+      mid.path ≡ d.path
+  append_path [] d mid a = ap (λ (z : Drafting S D). z.path) a.1
+  append_path (b ∷ bytes) d mid a = a.2.path
+
+  append_replace : (bytes : List ℕ) (d mid : Drafting S D) → Appended (drafting_sink stores) bytes d mid (Ok tt) →
+      mid.replace ≡ d.replace
+  append_replace [] d mid a = ap (λ (z : Drafting S D). z.replace) a.1
+  append_replace (b ∷ bytes) d mid a = a.2.replace
+
+module _ {S D : Type 0} {stores : StoreMeaning S D} {HasBeen : S → Type 0} {path : List ℕ} {replace : Bool}
+    {first : D} where
+  -- it was only written back, or nothing was done with it
+  pub took_none : {x : OpenEnd} {bytes : List ℕ} {draft draft' : D} →
+      (draft' ≡ draft) ⊎ stores.writes_behind draft draft' → TookBy stores HasBeen path replace first x bytes draft →
+      TookBy stores HasBeen path replace first x bytes draft'
+  took_none {x} {bytes} (inl same) h = search rules
+  took_none (inr behind) h = record { going = λ o n. Written_back (h.going o n) behind; done = h.done }
+
+  -- at another position, which is open only if the end was
+  pub took_still : {x y : OpenEnd} {bytes : List ℕ} {last : D} → y.committed ≡ x.committed →
+      (outcome_of y.state.position.phase ≡ None → outcome_of x.state.position.phase ≡ None) →
+      TookBy stores HasBeen path replace first x bytes last → TookBy stores HasBeen path replace first y bytes last
+  took_still same still h = search rules
+
+  -- if the server may have had more stores
+  pub took_longer : {HasBeen' : S → Type 0} → ((store : S) → HasBeen store → HasBeen' store) →
+      {x : OpenEnd} {bytes : List ℕ} {last : D} → TookBy stores HasBeen path replace first x bytes last →
+      TookBy stores HasBeen' path replace first x bytes last
+  took_longer more h = search rules
+
+  -- ---- a step
+  module _ (x : OpenEnd) (turn : Turn) (d d' : Drafting S D) (after : Holding) (earlier now : List ℕ)
+      (path_is : d.path ≡ path) (replace_is : d.replace ≡ replace) (been : HasBeen d'.store)
+      (still : outcome_of x.state.position.phase ≡ None)
+      (h : TookBy stores HasBeen path replace first x earlier d.draft) where
+    commits : (bytes : List ℕ) → now ≡ earlier ++ bytes → x.committed ≡ false → (mid : Drafting S D) →
+        Appended (drafting_sink stores) bytes d mid (Ok tt) →
+        (drafting_sink stores).after_commit mid d' None → WasCommitted stores HasBeen path replace first now
+    commits bytes is none mid a commit = search (rules, append_takes, append_path, append_replace)
+
+    stored_takes : (bytes : List ℕ) → now ≡ earlier ++ bytes → x.committed ≡ false →
+        StoreFate (drafting_sink stores) turn x.committed d d' bytes after.committed →
+        TookBy stores HasBeen path replace first (end_after x turn (Sink after)) now d'.draft
+    stored_takes bytes is none f = search (rules, append_takes, true≢false, commits)
+
+    pub fate_takes : (action : Action) → (x.committed ≡ true → IsResponse action) →
+        Fate (drafting_sink stores) turn x.committed d d' action earlier now after.committed →
+        TookBy stores HasBeen path replace first (end_after x turn (Sink after)) now d'.draft
+    fate_takes action responds f = search (rules, cases_Bool, stored_takes)

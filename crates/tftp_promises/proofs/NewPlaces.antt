@@ -1,20 +1,24 @@
 -- No two transfers of a run are at one place, and none is at a client's endpoint.
-use Rattle.tftp_promises.proofs.Common.{◌≡◌, ℕ, suc, zero, ◌+◌, ◌<◌, ◌≤◌, Bool, true, false, List, [], ◌∷◌, ◌++◌}
-use Rattle.tftp_promises.proofs.Common.{length, map, Option, Some, None, refl, sym, ap, ◌∙◌, subst, inl, inr, arith}
-use Rattle.tftp_promises.proofs.Common.{rules, ◌⊎◌, if◌then◌else◌, option_to_list, slice_get, Contains, length-append}
-use Rattle.tftp_promises.proofs.Common.{Contains-append_cases, Contains-append_left, Contains-append_right}
-use Rattle.tftp_promises.proofs.Common.{Contains-push, slice_get_read, SinkMeaning, SourceMeaning, StoreMeaning, Came}
-use Rattle.tftp_promises.proofs.Common.{Left, left_by, SocketEvent, Run, Start, Then, LoopState, LoopStep}
-use Rattle.tftp_promises.proofs.Common.{Request_answered, AnswersRequest, At_server, Endpoint, above, is_ours}
-use Rattle.tftp_promises.proofs.Common.{our_ports, ours_by, place, Programs, ClientOf, AreDistinct, opened_ports}
-use Rattle.tftp_promises.proofs.Common.{endpoint, client_at, ClientProgram, joined, Snapshot, server_did}
-use Rattle.std.proofs.Common.{◌≢◌}
+use Rattle.tftp_promises.proofs.Common.{List, ℕ, ◌≡◌, rules, sym, Endpoint, refl, [], ◌∙◌, ap, SourceMeaning, Some}
+use Rattle.tftp_promises.proofs.Common.{subst, inl, StoreMeaning, inr, ◌∷◌, SinkMeaning, false, true, None, ◌++◌}
+use Rattle.tftp_promises.proofs.Common.{Programs, Bool, ◌⊎◌, Contains, Files, SocketEvent, Option, true≢false, arith}
+use Rattle.tftp_promises.proofs.Common.{◌≢◌, LoopState, length, slice_get, LoopStep, joined, ClientOf, outcome_of}
+use Rattle.tftp_promises.proofs.Common.{OpenEnd, if◌then◌else◌, is_sender, client_at, endpoint, Snapshot, Run, Turn}
+use Rattle.tftp_promises.proofs.Common.{suc, Moved, Mode, Sink, Source, Then, Start, Spells, WirePacket, EndView, zero}
+use Rattle.tftp_promises.proofs.Common.{◌≤◌, Contains-push, requests_at, after_turn, ◌<◌, ◌+◌, DatagramStep, server_did}
+use Rattle.tftp_promises.proofs.Common.{our_ports, Has_asked, map, Came, Contains-append_cases, IsAmong, opened_at}
+use Rattle.tftp_promises.proofs.Common.{Request_answered, Contains-append_left, Elsewhere, left_by, Left}
+use Rattle.tftp_promises.proofs.Common.{AnswersRequest, Contains-append_right, Holding, is_ours, opened_ports}
+use Rattle.tftp_promises.proofs.Common.{ClientProgram, known_sink, known_source, IsUnblamed, files_of, option_to_list}
+use Rattle.tftp_promises.proofs.Common.{At_server, place, wire_text, Machine, Party, AreDistinct, length-append, above}
+use Rattle.tftp_promises.proofs.Common.{opened_by, slice_get_read, ours_by, run, start, IsFromServer}
+use Rattle.tftp_rules.proofs.UnblamedEnds.{datagram_unblamed}
 use Rattle.tftp_promises.specs.Openings.{total}
-use Rattle.tftp_promises.specs.Ports.{opened_by}
-use Rattle.tftp_promises.proofs.RunPlaces.{placed_by, places}
-use Rattle.tftp_promises.proofs.Invariant.{IsFreshBy}
-use Rattle.tftp_promises.proofs.KeptEvents.{nothing_in, only_one, first_or_more}
-use Rattle.tftp_promises.proofs.Places.{at_port}
+use Rattle.tftp_promises.proofs.Places.{placed_by, places, at_port}
+use Rattle.tftp_promises.proofs.Invariant.{IsFreshBy, ClientKept, HasArrived, HasFile, HasStored, IsKept, IsOfClient}
+use Rattle.tftp_promises.proofs.Invariant.{IsOfTransfer, IsOpened, IsViewed, SendsText, TransferKept, client_text}
+use Rattle.tftp_promises.proofs.Invariant.{place_text}
+use Rattle.tftp_promises.proofs.Orders.{nothing_in, first_or_more, one_in}
 
 -- no number exceeds a sum of it and others
 pub total_most : (ns : List ℕ) (n : ℕ) → Contains ns n → n ≤ total ns
@@ -57,8 +61,7 @@ module _ {S F D : Type 0} {stores : StoreMeaning S D} {sources : SourceMeaning F
   own_tid tid is = tid_by answers.steps.came tid (ap (λ (l : Left S F D). l.opened.tid) (sym answers.steps.left) ∙ is)
 
 module _ {S F D G K : Type 0} {stores : StoreMeaning S D} {sources : SourceMeaning F} {inputs : SourceMeaning G}
-    {outputs : SinkMeaning K}
-    (programs : Programs stores sources inputs outputs) where
+    {outputs : SinkMeaning K} (programs : Programs stores sources inputs outputs) where
   -- a place is at a port of a client's transfer, or above all ports
   pub record OursAt (ports : List ℕ) (a : Endpoint) : Type 0 where
     pub port : ℕ
@@ -181,8 +184,7 @@ module _ {S F D G K : Type 0} {stores : StoreMeaning S D} {sources : SourceMeani
     place_before a c true is same = elim (place_cases old.run a c) [
       | inl h ↦
           second_apart programs.port tid h.port (our_ports programs old.run)
-          (subst (λ (ports : List ℕ). AreDistinct (programs.port ∷ ports)) (ports_are is)
-          fresh.server) h.known
+          (subst (λ (ports : List ℕ). AreDistinct (programs.port ∷ ports)) (ports_are is) fresh.server) h.known
           (port_of (endpoint programs.ip h.port) (endpoint programs.ip tid) (sym h.is ∙ same))
       | inr h ↦
           let low =
@@ -249,7 +251,7 @@ module _ {S F D G K : Type 0} {stores : StoreMeaning S D} {sources : SourceMeani
     answered_again answers added fresh a c (Some tid) is now =
         let own : tid ≡ answers.tid = own_tid answers tid is in
         new_place old answers (ap option_to_list is ∙ ap (λ (t : ℕ). t ∷ []) own) added fresh a c
-        (sym (only_one (place programs (length (opened_ports old.run)) answers.from tid) a now)
+        (sym (one_in a (place programs (length (opened_ports old.run)) answers.from tid) now)
         ∙ ap (place programs (length (opened_ports old.run)) answers.from) own)
 
     pub not_again : (does : LoopStep stores sources old.state new) (added : List SocketEvent) →
@@ -258,3 +260,102 @@ module _ {S F D G K : Type 0} {stores : StoreMeaning S D} {sources : SourceMeani
     not_again (Request_answered answers) added fresh a c now =
         answered_again answers added fresh a c answers.left.opened.tid refl now
     not_again does added fresh a c now = nothing_in a now
+
+-- What an end of the programs receives makes it blame no peer that is no stranger.
+-- For the law no_program_is_blamed.
+
+-- the first of distinct ports differs from those after it
+first_apart : (first port : ℕ) (ports : List ℕ) → AreDistinct (first ∷ ports) → Contains ports port → port ≢ first
+first_apart first port ports distinct c same =
+    let there : slice_get ports c.0 ≡ Some port = slice_get_read ports (length ports) c.0 port refl c.1 (sym c.2) in
+    let one : zero ≡ suc c.0 =
+    distinct zero (suc c.0) first refl (there ∙ ap (λ (p : ℕ). Some p) same) in
+    omega (arith, one)
+
+module _ {S F D G K : Type 0} {stores : StoreMeaning S D} {sources : SourceMeaning F} {inputs : SourceMeaning G}
+    {outputs : SinkMeaning K} {programs : Programs stores sources inputs outputs} {pad : ℕ}
+    {snapshot : Snapshot programs} (kept : IsKept pad snapshot) (fresh : IsFreshBy snapshot) where
+  -- no transfer is at the request port
+  pub apart_from_requests : (a : Endpoint) → Contains (places programs snapshot.run) a → a ≢ requests_at programs
+  apart_from_requests a known same = elim (place_cases programs snapshot.run a known) [
+    | inl h ↦
+        first_apart programs.port h.port _ fresh.server h.known (ap (λ (z : Endpoint). z.port) (sym h.is ∙ same))
+    | inr h ↦
+        let at : above programs + h.number ≡ programs.port = ap (λ (z : Endpoint). z.port) (sym h.is ∙ same) in
+        omega (arith, at)
+  ]
+
+  abbrev ends : Endpoint → Party
+  ends = Machine.party (run (joined programs) kept.shown.0 start)
+
+  -- what a sender sends is what its run says
+  client_sends : (client : ClientOf programs) (files : Files G K) (x : OpenEnd) (moved : Moved) →
+      HasFile programs pad client x files moved → is_sender x.state.role.side ≡ true →
+      x.text ≡ client_text programs pad client
+  client_sends client files x moved has sends = search rules
+
+  transfer_sends : (x : OpenEnd) (files : Files F D) → HasStored pad snapshot x files →
+      is_sender x.state.role.side ≡ true → (x.text ≡ place_text programs pad x.address) × IsOpened programs snapshot.run x
+  transfer_sends x (Source source) has sends = (has.text, has.opened)
+  transfer_sends x (Sink sink) has sends = absurd (true≢false (sym sends ∙ has.receiver))
+
+  -- the text of a view is that of its end
+  module _ (from : Endpoint) (mode : Mode) (view : EndView) (among : IsAmong kept.views view)
+      (here : view.address ≡ from) (sends : (ends from).sender ≡ true) (text : SendsText programs pad from mode) where
+    -- so it is if it is that of an end that sends this
+    same_text : (x : OpenEnd) → IsViewed (joined programs) (SendsText programs pad) kept.views kept.messages x →
+        from ≡ x.address → (is_sender x.state.role.side ≡ true → wire_text mode text.file ≡ x.text) →
+        wire_text mode text.file ≡ (ends from).text
+    same_text x viewed at has = search rules
+
+    of_client : IsOfClient programs snapshot.clients view.address → wire_text mode text.file ≡ (ends from).text
+    of_client h =
+        let own : ClientKept programs pad kept.views kept.messages h.client h.s h.files h.moved =
+        kept.clients h.k h.client (Has_asked h.s h.files h.noted h.moved) h.found h.is_stage in
+        let at : from ≡ client_at h.client = sym here ∙ h.address in
+        same_text own.end own.viewed (at ∙ sym own.address) (λ s.
+        text.client h.k h.client h.found at ∙ sym (client_sends h.client h.files own.end h.moved own.has s))
+
+    of_transfer : IsOfTransfer snapshot view.address → wire_text mode text.file ≡ (ends from).text
+    of_transfer h =
+        let own : TransferKept pad kept.views kept.messages snapshot h.port h.transfer view.address =
+        kept.transfers h.port h.transfer view.address h.is_transfer in
+        let at : from ≡ own.end.address = sym here ∙ sym own.address in
+        let known = kept.server.opened h.port h.transfer view.address h.is_transfer in
+        same_text own.end own.viewed at (λ s.
+        let t = transfer_sends own.end h.transfer.files own.has s in
+        let opened : opened_at programs from programs.server.run ≡ Some t.1.opening =
+        ap (λ (a : Endpoint). opened_at programs a programs.server.run) (sym here)
+        ∙ (sym (fresh.told view.address known).opened
+        ∙ (ap (λ (a : Endpoint). opened_at programs a snapshot.run) (sym own.address) ∙ t.1.opened)) in
+        text.transfer
+        (λ k client found same. client_apart programs snapshot fresh view.address known k client found (sym (here ∙ same)))
+        t.1.opening opened
+        ∙ (ap (place_text programs pad) at ∙ sym t.0))
+
+  -- what a peer sends can be read, if it is the text of a file
+  readable : (from : Endpoint) (mode : Mode) → SendsText programs pad from mode → (ends from).is_open ≡ true →
+      (ends from).sender ≡ true → (file : List ℕ) × (wire_text mode file ≡ (ends from).text)
+  readable from mode text is_open sends =
+      let there = kept.shown.1.1.only from is_open in
+      let among : IsAmong kept.views there.1 = (there.0, there.2) in (
+        text.file,
+        elim (kept.only there.1 among) [
+          | inl h ↦ of_client from mode there.1 among there.3 sends text h
+          | inr h ↦ of_transfer from mode there.1 among there.3 sends text h
+        ],
+      )
+
+  -- so a turn on what has arrived blames nobody
+  pub turn_unblamed : (x : OpenEnd) → IsViewed (joined programs) (SendsText programs pad) kept.views kept.messages x →
+      outcome_of x.state.position.phase ≡ None → x.address ≢ requests_at programs → (from : Endpoint) (bytes : List ℕ) →
+      HasArrived kept.messages from x.address bytes →
+      ((joined programs).host_of from ≢ Elsewhere → (p : WirePacket) × Spells p bytes) →
+      IsFromServer (joined programs) x from bytes → (turn : Turn) (held : Files (List ℕ) Holding) →
+      DatagramStep known_source known_sink from bytes x.state (files_of x) turn held →
+      IsUnblamed (joined programs) (SendsText programs pad) kept.messages (after_turn x.state turn)
+  turn_unblamed x viewed still apart from bytes come spelled serves turn held steps =
+      datagram_unblamed (joined programs) (SendsText programs pad) kept.shown.0 kept.views kept.messages kept.shown.1
+      viewed.index x viewed.viewed viewed.kept still viewed.unblamed apart from bytes
+      (λ own. let p = spelled own in (p.0, p.1, come p.0 p.1)) serves
+      (λ own text is_open sends. readable from x.state.role.mode text is_open sends) turn held steps

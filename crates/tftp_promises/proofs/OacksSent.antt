@@ -1,32 +1,21 @@
 -- Each OACK that a server sent opened a transfer: it is the first datagram of one, and was sent to where its request
 -- came from. For the law a_client_ends_for_a_reason.
-use Rattle.tftp_promises.proofs.Common.{◌≡◌, ℕ, true, List, [], ◌∷◌, ◌++◌, append_assoc, Option, Some, None, refl, sym}
-use Rattle.tftp_promises.proofs.Common.{ap, ◌∙◌, subst, inl, inr, ◌⊎◌, true≢false, append_cancel_right, Mode}
-use Rattle.tftp_promises.proofs.Common.{IsBlockSize, SourceMeaning, has_opcode, Reply, error_bytes, timeout_turn}
-use Rattle.tftp_promises.proofs.Common.{StoreMeaning, Opening, drafting_sink, Came, Nothing, Error_reply, A_transfer}
-use Rattle.tftp_promises.proofs.Common.{Left, left_by, ServerState, TransferState, at, Act, Said, Has, SocketEvent}
-use Rattle.tftp_promises.proofs.Common.{answered, Received, Sent, Watched, Elapsed, Printed, Quiet, Run, Start, Then}
-use Rattle.tftp_promises.proofs.Common.{AnswersRequest, PortState, LoopState, PortStep, LoopStep, after_request}
-use Rattle.tftp_promises.proofs.Common.{port_state, A_datagram, A_timeout, Work, Waited, Request_received, Request_lost}
-use Rattle.tftp_promises.proofs.Common.{Store_set, StoreOpened, acts_at}
-use Rattle.tftp_ends.specs.declared.endpoint.Endpoint.{Endpoint}
+use Rattle.tftp_promises.proofs.Common.{List, ℕ, ◌≡◌, rules, sym, Endpoint, refl, [], ◌∙◌, ap, SourceMeaning, Some}
+use Rattle.tftp_promises.proofs.Common.{subst, inl, StoreMeaning, inr, ◌∷◌, true, None, ◌++◌, ◌⊎◌, SocketEvent, Option}
+use Rattle.tftp_promises.proofs.Common.{true≢false, LoopState, TransferState, LoopStep, Sent, Received, at, Run, Mode}
+use Rattle.tftp_promises.proofs.Common.{Then, Start, ServerState, Reply, Elapsed, timeout_turn, A_transfer, IsBlockSize}
+use Rattle.tftp_promises.proofs.Common.{append_cancel_right, Watched, Quiet, Act, drafting_sink, Came, PortStep}
+use Rattle.tftp_promises.proofs.Common.{append_assoc, answered, state_is, PortState, left_by, Nothing, Left, Has}
+use Rattle.tftp_promises.proofs.Common.{AnswersRequest, error_bytes, acts_at, port_state, Error_reply, Said, At_port}
+use Rattle.tftp_promises.proofs.Common.{A_datagram, Opening, Work, A_timeout, trace_is, StoreOpened, Request_lost}
+use Rattle.tftp_promises.proofs.Common.{has_opcode, Waited, after_request, Store_set}
 use Rattle.tftp_lives.proofs.NewestSaid.{IsPlain, datagram_plain, newest_said, timeout_plain}
-use Rattle.tftp_loop.specs.Steps.LoopStep.{At_port, Request_answered}
+use Rattle.tftp_loop.specs.Steps.LoopStep.{Request_answered}
 use Rattle.tftp_promises.specs.Given.{StoreOpens}
 use Rattle.tftp_promises.proofs.StepEvents.{step_adds}
 use Rattle.tftp_promises.proofs.TransferLives.{run_config, transfers_live}
-use Rattle.tftp_promises.proofs.TransferTraces.{transfers_noted}
-use Rattle.tftp_promises.proofs.WhileOpen.{all_is, all_of, has_later, sent_in}
-use Rattle.tftp_loop.proofs.NewStates.{state_is, trace_is}
-
--- nothing is sent
-abbrev IsUnsent : SocketEvent → Type 0
-IsUnsent (Received port from bytes) = Unit {0}
-IsUnsent (Sent port to bytes) = ⊥
-IsUnsent (Watched watch) = Unit {0}
-IsUnsent (Elapsed port time) = Unit {0}
-IsUnsent (Printed line) = Unit {0}
-IsUnsent (Quiet event) = Unit {0}
+use Rattle.tftp_promises.proofs.TransferTraces.{transfers_noted, all_is, all_of, has_later, sent_in}
+use Rattle.tftp_promises.proofs.Orders.{IsUnsent}
 
 -- of each OACK that was noted since the trace was so, this holds
 record AreSo (before : List SocketEvent) (Holds : Endpoint → List ℕ → Type 0) (events : List SocketEvent) : Type 0 where
@@ -35,7 +24,10 @@ record AreSo (before : List SocketEvent) (Holds : Endpoint → List ℕ → Type
   sent : (port : ℕ) (to : Endpoint) (bytes : List ℕ) → Has (Sent port to bytes) noted → has_opcode 6 bytes ≡ true →
       Holds to bytes
 
-module _ (before : List SocketEvent) (Holds : Endpoint → List ℕ → Type 0) where
+same_to : (a b : ℕ) (to goes : Endpoint) (x y : List ℕ) → Sent a goes x ≡ Sent b to y → (goes ≡ to) × (x ≡ y)
+same_to a b to goes x y e = (cc, cc)
+
+module _ {before : List SocketEvent} {Holds : Endpoint → List ℕ → Type 0} where
   so_on : (e : SocketEvent) (events : List SocketEvent) → IsUnsent e → AreSo before Holds events →
       AreSo before Holds (e ∷ events)
   so_on e events unsent h = record {
@@ -46,9 +38,6 @@ module _ (before : List SocketEvent) (Holds : Endpoint → List ℕ → Type 0) 
       | inr old ↦ h.sent port to bytes old oack
     ];
   }
-
-  same_to : (a b : ℕ) (to goes : Endpoint) (x y : List ℕ) → Sent a goes x ≡ Sent b to y → (goes ≡ to) × (x ≡ y)
-  same_to a b to goes x y e = (cc, cc)
 
   so_says : (at : ℕ) (goes : Endpoint) (content : List ℕ) (events : List SocketEvent) →
       (has_opcode 6 content ≡ true → Holds goes content) → AreSo before Holds events →
@@ -69,8 +58,7 @@ module _ (before : List SocketEvent) (Holds : Endpoint → List ℕ → Type 0) 
   so_answers : (at : ℕ) (reply : Option Reply) (events : List SocketEvent) →
       ((r : Reply) → reply ≡ Some r → has_opcode 6 r.bytes ≡ true → Holds r.to r.bytes) → AreSo before Holds events →
       AreSo before Holds (answered at reply events)
-  so_answers at None events holds h = h
-  so_answers at (Some r) events holds h = so_says at r.to r.bytes events (holds r refl) h
+  so_answers at reply events holds h = search (rules, so_says)
 
   so_same : (events other : List SocketEvent) → other ≡ events → AreSo before Holds events → AreSo before Holds other
   so_same events other is h = subst (AreSo before Holds) (sym is) h
@@ -87,8 +75,7 @@ so_weaker before One Other weaker events h = record {
 module _ {S F D : Type 0} (stores : StoreMeaning S D) (sources : SourceMeaning F) where
   -- the request port stays
   step_requests : {old new : LoopState S F D} → LoopStep stores sources old new → new.requests ≡ old.requests
-  step_requests (Waited d) = ap (λ (s : LoopState S F D). s.requests) d.is
-  step_requests does = ap (λ (s : LoopState S F D). s.requests) (state_is does)
+  step_requests h0 = search rules
 
   -- what is pending is as it was, or was received now
   abbrev Pends : LoopState S F D → LoopState S F D → Type 0
@@ -96,29 +83,8 @@ module _ {S F D : Type 0} (stores : StoreMeaning S D) (sources : SourceMeaning F
       (from : Endpoint) (bytes : List ℕ) → new.pending ≡ Some (from, bytes) →
       (old.pending ≡ Some (from, bytes)) ⊎ (new.events ≡ Received old.requests from bytes ∷ old.events)
 
-  pends_still : (old new : LoopState S F D) → new.pending ≡ old.pending → Pends old new
-  pends_still old new same from bytes is = inl (sym same ∙ is)
-
-  pends_none : (old new : LoopState S F D) → new.pending ≡ None → Pends old new
-  pends_none old new none from bytes is =
-      absurd (let f : None ≡ Some (from, bytes) = sym none ∙ is in cc)
-
-  both_parts : (a b : Endpoint) (x y : List ℕ) (o : Option (Endpoint × List ℕ)) → o ≡ Some (a, x) → o ≡ Some (b, y) →
-      (a ≡ b) × (x ≡ y)
-  both_parts a b x y o e f =
-      let g : ◌≡◌ {A = Option (Endpoint × List ℕ)} (Some (a, x)) (Some (b, y)) = sym e ∙ f in
-      let same : ◌≡◌ {A = Endpoint × List ℕ} (a, x) (b, y) = cc in
-      (ap (λ (z : Endpoint × List ℕ). z.0) same, ap (λ (z : Endpoint × List ℕ). z.1) same)
-
   step_pends : {old new : LoopState S F D} → LoopStep stores sources old new → Pends old new
-  step_pends {old} {new} (Request_received d) = λ from bytes is.
-      let parts = both_parts d.from from d.bytes bytes new.pending (ap (λ (s : LoopState S F D). s.pending) d.is) is in
-      inr (ap (λ (s : LoopState S F D). s.events) d.is
-      ∙ (ap (λ (a : Endpoint). Received old.requests a d.bytes ∷ old.events) parts.0
-      ∙ ap (λ (b : List ℕ). Received old.requests from b ∷ old.events) parts.1))
-  step_pends {old} {new} (Request_answered d) = pends_none old new (ap (λ (s : LoopState S F D). s.pending) d.is)
-  step_pends {old} {new} (Request_lost d) = pends_none old new (ap (λ (s : LoopState S F D). s.pending) d.is)
-  step_pends {old} {new} does = pends_still old new (ap (λ (s : LoopState S F D). s.pending) (state_is does))
+  step_pends h0 = search rules
 
 module _ {S F D : Type 0} (stores : StoreMeaning S D) (sources : SourceMeaning F) {start : LoopState S F D} where
   -- the server opened a transfer for a request from there, which it had received, and sent this first
@@ -186,7 +152,7 @@ module _ {S F D : Type 0} (stores : StoreMeaning S D) (sources : SourceMeaning F
     After events = AreSo start.events Now events
 
     on : (e : SocketEvent) (events : List SocketEvent) → IsUnsent e → After events → After (e ∷ events)
-    on e events unsent a = so_on start.events Now e events unsent a
+    on e events unsent a = so_on e events unsent a
 
     -- what a transfer sends again was sent before
     again : (port : ℕ) (transfer : TransferState F D) → start.server.held ≡ [] →
@@ -216,14 +182,13 @@ module _ {S F D : Type 0} (stores : StoreMeaning S D) (sources : SourceMeaning F
   port_so : {old new : LoopState S F D} (run : Run (LoopStep stores sources) start old)
       (does : LoopStep stores sources old new) → Known run → start.server.held ≡ [] →
       IsBlockSize start.server.config.limits.max_block → (now : ℕ) (before after : PortState S F D) →
-      before.server ≡ old.server → before.events ≡ old.events →
-      PortStep stores sources now before after →
+      before.server ≡ old.server → before.events ≡ old.events → PortStep stores sources now before after →
       AreSo start.events (IsOpenedBy (Then run does)) after.events
   port_so {old} run does h none max now before after server events (A_datagram d) =
       let takes = d.handles.takes in
-      let from_old = so_same start.events (IsOpenedBy (Then run does)) old.events before.events events (so_far run does h) in
-      so_same start.events (IsOpenedBy (Then run does)) _ after.events d.handles.events
-      (so_answers start.events (IsOpenedBy (Then run does)) before.timer.port takes.takes.turn.reply
+      let from_old = so_same old.events before.events events (so_far run does h) in
+      so_same _ after.events d.handles.events
+      (so_answers before.timer.port takes.takes.turn.reply
       (Received before.timer.port d.from d.bytes ∷ before.events)
       (again run does h before.timer.port takes.transfer none max
       (ap (λ (s : ServerState S F D). at before.timer.port s.held) (sym server) ∙ takes.found) takes.takes.turn.reply
@@ -233,20 +198,19 @@ module _ {S F D : Type 0} (stores : StoreMeaning S D) (sources : SourceMeaning F
   port_so {old} run does h none max now before after server events (A_timeout d) =
       let times_out = d.times_out.times_out in
       let reply = (timeout_turn times_out.transfer.end).reply in
-      so_same start.events (IsOpenedBy (Then run does)) _ after.events d.times_out.events
-      (so_answers start.events (IsOpenedBy (Then run does)) before.timer.port reply
+      so_same _ after.events d.times_out.events
+      (so_answers before.timer.port reply
       (Elapsed before.timer.port now ∷ before.events)
       (again run does h before.timer.port times_out.transfer none max
       (ap (λ (s : ServerState S F D). at before.timer.port s.held) (sym server) ∙ times_out.found) reply
       (timeout_plain times_out.transfer.end))
       (on run does h (Elapsed before.timer.port now) before.events tt
-      (so_same start.events (IsOpenedBy (Then run does)) old.events before.events events (so_far run does h))))
+      (so_same old.events before.events events (so_far run does h))))
   port_so {old} run does h none max now before after server events (Work d) =
-      so_same start.events (IsOpenedBy (Then run does)) old.events after.events (d.events ∙ events) (so_far run does h)
+      so_same old.events after.events (d.events ∙ events) (so_far run does h)
   port_so {old} run does h none max now before after server events step =
-      so_same start.events (IsOpenedBy (Then run does)) _ after.events (trace_is step)
-      (on run does h _ before.events tt
-      (so_same start.events (IsOpenedBy (Then run does)) old.events before.events events (so_far run does h)))
+      so_same _ after.events (trace_is step) (on run does h _ before.events tt
+      (so_same old.events before.events events (so_far run does h)))
 
   -- the answer to a request
   came_so : {old new : LoopState S F D} (run : Run (LoopStep stores sources) start old)
@@ -255,12 +219,12 @@ module _ {S F D : Type 0} (stores : StoreMeaning S D) (sources : SourceMeaning F
       (after_request old d.from (left_by came old.server d.from d.tid)).events
   came_so run d h Nothing is = so_far run (Request_answered d) h
   came_so {old} run d h (Error_reply reply store) is =
-      so_says start.events (IsOpenedBy (Then run (Request_answered d))) old.requests d.from (error_bytes reply) old.events
+      so_says old.requests d.from (error_bytes reply) old.events
       (λ oack. absurd (true≢false (sym oack))) (so_far run (Request_answered d) h)
   came_so {old} {new} run d h (A_transfer transfer store) is =
       let adds = step_adds (Request_answered d) in
       let before = h.so in
-      so_says start.events (IsOpenedBy (Then run (Request_answered d))) d.tid d.from transfer.end.position.last_sent
+      so_says d.tid d.from transfer.end.position.last_sent
       old.events
       (λ oack. record {
         old = old;
@@ -279,36 +243,30 @@ module _ {S F D : Type 0} (stores : StoreMeaning S D) (sources : SourceMeaning F
             ∙ (ap (λ (es : List SocketEvent). adds.0 ++ es) before.is
             ∙ sym (append_assoc adds.0 before.noted start.events));
         received =
-            has_later (Received start.requests d.from d.bytes) adds.0 before.noted
-            (h.pending d.from d.bytes d.pending);
+            has_later (Received start.requests d.from d.bytes) adds.0 before.noted (h.pending d.from d.bytes d.pending);
       }) (so_far run (Request_answered d) h)
 
   -- ---- along a run
   step_so : {old new : LoopState S F D} (run : Run (LoopStep stores sources) start old)
       (does : LoopStep stores sources old new) → Known run → start.server.held ≡ [] →
-      IsBlockSize start.server.config.limits.max_block →
-      AreSo start.events (IsOpenedBy (Then run does)) new.events
+      IsBlockSize start.server.config.limits.max_block → AreSo start.events (IsOpenedBy (Then run does)) new.events
   step_so {old} {new} run (Waited d) h none max =
-      so_same start.events _ _ new.events (ap (λ (s : LoopState S F D). s.events) d.is)
-      (on run (Waited d) h (Quiet _) _ tt
+      so_same _ new.events (ap (λ (s : LoopState S F D). s.events) d.is) (on run (Waited d) h (Quiet _) _ tt
       (on run (Waited d) h (Quiet _) _ tt
       (on run (Waited d) h (Watched d.watch) old.events tt (so_far run (Waited d) h))))
   step_so {old} {new} run (At_port d) h none max =
-      so_same start.events _ d.next.events new.events (ap (λ (s : LoopState S F D). s.events) d.is)
+      so_same d.next.events new.events (ap (λ (s : LoopState S F D). s.events) d.is)
       (port_so run (At_port d) h none max old.now (port_state old d.timer) d.next refl refl d.does)
   step_so {old} {new} run (Request_answered d) h none max =
-      so_same start.events _ _ new.events (ap (λ (s : LoopState S F D). s.events) d.is)
-      (subst
+      so_same _ new.events (ap (λ (s : LoopState S F D). s.events) d.is) (subst
       (λ (left : Left S F D). AreSo start.events (IsOpenedBy (Then run (Request_answered d)))
       (after_request old d.from left).events) (sym d.steps.left) (came_so run d h d.steps.came refl))
   step_so {old} {new} run (Request_lost d) h none max =
-      so_same start.events _ old.events new.events (ap (λ (s : LoopState S F D). s.events) d.is)
-      (so_far run (Request_lost d) h)
+      so_same old.events new.events (ap (λ (s : LoopState S F D). s.events) d.is) (so_far run (Request_lost d) h)
   step_so {old} {new} run (Store_set d) h none max =
-      so_same start.events _ old.events new.events (ap (λ (s : LoopState S F D). s.events) d.is)
-      (so_far run (Store_set d) h)
+      so_same old.events new.events (ap (λ (s : LoopState S F D). s.events) d.is) (so_far run (Store_set d) h)
   step_so {old} {new} run does h none max =
-      so_same start.events _ _ new.events (ap (λ (s : LoopState S F D). s.events) (state_is does))
+      so_same _ new.events (ap (λ (s : LoopState S F D). s.events) (state_is does))
       (on run does h _ old.events tt (so_far run does h))
 
   known_still : {old new : LoopState S F D} (run : Run (LoopStep stores sources) start old)

@@ -1,23 +1,200 @@
--- At each time of a run each held transfer has one timer.
-use Rattle.tftp_promises.proofs.Common.{arith, ◌≡◌, ◌<◌, ◌≤◌, ℕ, Bool, true, false, List, [], ◌∷◌, ◌++◌, map, length}
-use Rattle.tftp_promises.proofs.Common.{Option, Some, None, refl, sym, ap, subst, ◌∙◌, inl, inr, slice_set}
-use Rattle.tftp_promises.proofs.Common.{slice_index_or, IsSome, Contains, is_at, nat_cmp, cases_eq, SourceMeaning}
-use Rattle.tftp_promises.proofs.Common.{Backoff, StoreMeaning, TransferState, ServerState, at, with_new, without}
-use Rattle.tftp_promises.proofs.Common.{KeepsHeld, Came, Left, Nothing, Error_reply, A_transfer, left_by, WorksAt}
-use Rattle.tftp_promises.proofs.Common.{SocketEvent, Run, Start, Then, Timer, PortState, LoopState, PortStep, LoopStep}
-use Rattle.tftp_promises.proofs.Common.{at_start, A_datagram, A_lost_datagram, A_timeout, Work, Waited, Transfer_closed}
-use Rattle.tftp_promises.proofs.Common.{LoopConfig}
-use Rattle.std.specs.List.{swap_remove}
-use Rattle.tftp_ends.specs.declared.endpoint.Endpoint.{Endpoint}
+-- How many elements of a list, and how many entries of a table, have a port.
+use Rattle.tftp_promises.proofs.Common.{List, ℕ, ◌≡◌, rules, sym, Endpoint, refl, [], ◌∙◌, ap, SourceMeaning, Some}
+use Rattle.tftp_promises.proofs.Common.{subst, inl, StoreMeaning, inr, ◌∷◌, false, true, None, ◌++◌, Bool, ◌⊎◌}
+use Rattle.tftp_promises.proofs.Common.{Contains, SocketEvent, Option, arith, LoopState, length, slice_get}
+use Rattle.tftp_promises.proofs.Common.{TransferState, LoopStep, at, Run, suc, Then, Start, ServerState, zero, ◌≤◌, ◌<◌}
+use Rattle.tftp_promises.proofs.Common.{cases_eq, ◌+◌, A_transfer, eq-eqb, map, Came, PortStep, with_next, state_is}
+use Rattle.tftp_promises.proofs.Common.{PortState, left_by, Nothing, Left, port_state, Error_reply, ne_eqb, At_port}
+use Rattle.tftp_promises.proofs.Common.{A_datagram, Work, A_timeout, KeepsHeld, server_is, Transfer_closed, WorksAt}
+use Rattle.tftp_promises.proofs.Common.{Backoff, without, with_new, IsSome, A_lost_datagram, at_start, LoopConfig}
+use Rattle.tftp_promises.proofs.Common.{Waited, is_at, cond, nat_cmp, Timer, slice_set, slice_index_or, Equal, Ordering}
+use Rattle.tftp_promises.proofs.Common.{is_eq, stays_at, match_ordering, Less, Greater}
+use Rattle.std.proofs.Common.{eqb}
+use Rattle.std.specs.List.{swap_remove, sum_by}
+use Rattle.std.specs.Map.{lookup, remove_entry, set_value}
+use Rattle.std.specs.BTreeMap.{insert_entry}
+use Rattle.std.proofs.lemmas.Bool.Decides.{nat_tests}
+use Rattle.std.proofs.lemmas.List.Sums.{sum_by-cons, sum_by-swap_remove}
 use Rattle.tftp_ends.specs.declared.record.Record.{Record}
 use Rattle.tftp_server.specs.State.{taken_of}
-use Rattle.tftp_loop.specs.Steps.{marked_by, set_by, timer_after, with_timer, interval_at, started}
-use Rattle.tftp_loop.specs.Steps.LoopStep.{At_port, Request_answered}
+use Rattle.tftp_loop.specs.Steps.{marked_by, set_by, with_timer, interval_at, started}
+use Rattle.tftp_loop.specs.Steps.LoopStep.{Request_answered}
 use Rattle.tftp_promises.specs.Timers.{HasOneTimerEach, timer_ports}
-use Rattle.tftp_promises.proofs.PortCounts.{hit, hit_same, hit_other, hits, hits_push, hits_map, hits_swap_removed}
-use Rattle.tftp_promises.proofs.PortCounts.{hits_set, hits_apart, hits_contained, contains_hit, keyed, keyed_absent}
-use Rattle.tftp_promises.proofs.PortCounts.{keyed_present, keyed_found, keyed_inserted, keyed_set, keyed_removed}
-use Rattle.tftp_loop.proofs.NewStates.{state_is, timer_is, server_is}
+
+-- 1 for the port itself, and 0 for another
+abbrev pub hit : ℕ → ℕ → ℕ
+hit port other = cond (eqb port other) 1 0
+
+pub hit_same : (port : ℕ) → hit port port ≡ 1
+hit_same port = ap (λ (b : Bool). cond b 1 0) (eq-eqb port port refl)
+
+pub hit_other : (port other : ℕ) → (port ≡ other → ⊥) → hit port other ≡ 0
+hit_other port other e = ap (λ (b : Bool). cond b 1 0) (ne_eqb port other e)
+
+module _ {X : Type 0} (port_of : X → ℕ) where
+  -- how many elements have the port
+  abbrev pub hits : ℕ → List X → ℕ
+  hits port [] = 0
+  hits port (x ∷ xs) = hit port (port_of x) + hits port xs
+
+  pub hits_push : (port : ℕ) (xs : List X) (x : X) → hits port (xs ++ x ∷ []) ≡ hits port xs + hit port (port_of x)
+  hits_push port [] x = omega arith
+  hits_push port (y ∷ xs) x = let e = hits_push port xs x in omega (arith, e)
+
+  -- a change that keeps the ports
+  pub hits_map : (port : ℕ) (xs : List X) (f : X → X) → ((x : X) → port_of (f x) ≡ port_of x) →
+      hits port (map f xs) ≡ hits port xs
+  hits_map port [] f same = refl
+  hits_map port (x ∷ xs) f same =
+      ap (λ (p : ℕ). hit port p + hits port (map f xs)) (same x) ∙ ap (λ (n : ℕ). hit port (port_of x) + n)
+      (hits_map port xs f same)
+
+  hits_sum : (port : ℕ) (xs : List X) → hits port xs ≡ sum_by (λ x. hit port (port_of x)) xs
+  hits_sum port [] = refl
+  hits_sum port (x ∷ xs) =
+      ap (λ (n : ℕ). hit port (port_of x) + n) (hits_sum port xs) ∙ sym (sum_by-cons (λ x. hit port (port_of x)) x xs)
+
+  pub hits_swap_removed : (port : ℕ) (xs : List X) (i : ℕ) (x : X) → i < length xs → x ≡ slice_index_or xs i x →
+      hits port (swap_remove xs i x) + hit port (port_of x) ≡ hits port xs
+  hits_swap_removed port xs i x within is = search (rules, hits_sum, sum_by-swap_remove)
+
+  pub hits_set : (port : ℕ) (xs : List X) (i : ℕ) (x y : X) → x ≡ slice_index_or xs i x → port_of y ≡ port_of x →
+      hits port (slice_set xs i y) ≡ hits port xs
+  hits_set port [] i x y is same = refl
+  hits_set port (z ∷ xs) zero x y is same = ap (λ (p : ℕ). hit port p + hits port xs) (same ∙ ap port_of is)
+  hits_set port (z ∷ xs) (suc i) x y is same = ap (λ (n : ℕ). hit port (port_of z) + n) (hits_set port xs i x y is same)
+
+  -- an element with the port
+  pub hits_at : (port : ℕ) (xs : List X) (i : ℕ) → slice_get (map port_of xs) i ≡ Some port → 0 < hits port xs
+  hits_at port [] i e = absurd (let f : None ≡ Some port = e in cc)
+  hits_at port (x ∷ xs) zero e =
+      let same : port_of x ≡ port = (let f : Some (port_of x) ≡ Some port = e in cc) in
+      let one : hit port (port_of x) ≡ 1 = ap (hit port) same ∙ hit_same port in
+      omega (arith, one)
+  hits_at port (x ∷ xs) (suc i) e = let more = hits_at port xs i e in omega (arith, more)
+
+  -- if no port is there twice, one port is at one index
+  pub hits_apart : (xs : List X) → ((port : ℕ) → hits port xs ≤ 1) → (j k port : ℕ) →
+      slice_get (map port_of xs) j ≡ Some port → slice_get (map port_of xs) k ≡ Some port → j ≡ k
+  hits_apart [] most j k port e f = absurd (let n : None ≡ Some port = e in cc)
+  hits_apart (x ∷ xs) most zero zero port e f = refl
+  hits_apart (x ∷ xs) most zero (suc k) port e f =
+      let same : port_of x ≡ port = (let n : Some (port_of x) ≡ Some port = e in cc) in
+      let one : hit port (port_of x) ≡ 1 = ap (hit port) same ∙ hit_same port in
+      let more = hits_at port xs k f in
+      let all = most port in
+      absurd (omega (arith, one, more, all))
+  hits_apart (x ∷ xs) most (suc j) zero port e f =
+      let same : port_of x ≡ port = (let n : Some (port_of x) ≡ Some port = f in cc) in
+      let one : hit port (port_of x) ≡ 1 = ap (hit port) same ∙ hit_same port in
+      let more = hits_at port xs j e in
+      let all = most port in
+      absurd (omega (arith, one, more, all))
+  hits_apart (x ∷ xs) most (suc j) (suc k) port e f =
+      ap suc (hits_apart xs (λ p. let all = most p in omega (arith, all)) j k port e f)
+
+  pub hits_contained : (port : ℕ) (xs : List X) (k : ℕ) → k < length (map port_of xs) →
+      slice_index_or (map port_of xs) k port ≡ port → 0 < hits port xs
+  hits_contained port [] k l e = absurd (omega (arith, l))
+  hits_contained port (x ∷ xs) zero l e =
+      let one : hit port (port_of x) ≡ 1 = ap (hit port) e ∙ hit_same port in omega (arith, one)
+  hits_contained port (x ∷ xs) (suc k) l e =
+      let more = hits_contained port xs k (omega (arith, l)) e in omega (arith, more)
+
+  pub contains_hit : (port : ℕ) (xs : List X) → 0 < hits port xs → Contains (map port_of xs) port
+  contains_hit port [] h = absurd (omega (arith, h))
+  contains_hit port (x ∷ xs) h = elim (cases_eq port (port_of x)) [
+    | inl same ↦ (0, omega arith, sym same)
+    | inr other ↦
+        let none = hit_other port (port_of x) other in
+        let rest = contains_hit port xs (omega (arith, none, h)) in
+        (suc rest.0, (let l = rest.1 in omega (arith, l)), rest.2)
+  ]
+
+-- ---- in a table
+compares : (tid key : ℕ) (o : Ordering) → nat_cmp tid key ≡ o → is_eq o ≡ true → tid ≡ key
+compares tid key o e = grind (arith, nat_tests)
+
+differs : (tid key : ℕ) (o : Ordering) → nat_cmp tid key ≡ o → is_eq o ≡ false → tid ≡ key → ⊥
+differs tid key o e = grind (arith, nat_tests)
+
+module _ {T : Type 0} where
+  -- how many entries have the key
+  abbrev pub keyed : ℕ → List (ℕ × T) → ℕ
+  keyed = hits (λ (e : ℕ × T). e.0)
+
+  keyed_absent_at : (b : Bool) (port : ℕ) (e : ℕ × T) (n : ℕ) (m : Option T) → (b ≡ false → port ≡ e.0 → ⊥) →
+      (m ≡ None → n ≡ 0) → cond b (Some e.1) m ≡ None → hit port e.0 + n ≡ 0
+  keyed_absent_at b port e n m apart more h = search rules
+
+  -- no entry has a key at which nothing is
+  pub keyed_absent : (port : ℕ) (held : List (ℕ × T)) → lookup (is_at (nat_cmp port)) held ≡ None → keyed port held ≡ 0
+  keyed_absent port [] h = refl
+  keyed_absent port (e ∷ held) h =
+      keyed_absent_at (is_eq (nat_cmp port e.0)) port e (keyed port held) (lookup (is_at (nat_cmp port)) held)
+      (differs port e.0 (nat_cmp port e.0) refl) (keyed_absent port held) h
+
+  keyed_present_at : (b : Bool) (port : ℕ) (e : ℕ × T) (n : ℕ) (m : Option T) → (b ≡ true → port ≡ e.0) →
+      (IsSome m → 0 < n) → IsSome (cond b (Some e.1) m) → 0 < hit port e.0 + n
+  keyed_present_at b port e n m same more h = search rules
+
+  pub keyed_present : (port : ℕ) (held : List (ℕ × T)) → IsSome (lookup (is_at (nat_cmp port)) held) →
+      0 < keyed port held
+  keyed_present port [] h = absurd (cc)
+  keyed_present port (e ∷ held) h =
+      keyed_present_at (is_eq (nat_cmp port e.0)) port e (keyed port held) (lookup (is_at (nat_cmp port)) held)
+      (compares port e.0 (nat_cmp port e.0) refl) (keyed_present port held) h
+
+  found : (port : ℕ) (held : List (ℕ × T)) (o : Option T) → lookup (is_at (nat_cmp port)) held ≡ o →
+      0 < keyed port held → IsSome o
+  found port held o e h = search (rules, keyed_absent)
+
+  pub keyed_found : (port : ℕ) (held : List (ℕ × T)) → 0 < keyed port held → IsSome (lookup (is_at (nat_cmp port)) held)
+  keyed_found port held h = found port held (lookup (is_at (nat_cmp port)) held) refl h
+
+  keyed_inserted_at : (o : Ordering) (port tid : ℕ) (v : T) (e : ℕ × T) (held more : List (ℕ × T)) →
+      nat_cmp tid e.0 ≡ o → lookup (is_at (nat_cmp tid)) (e ∷ held) ≡ None
+      → (lookup (is_at (nat_cmp tid)) held ≡ None → keyed port more ≡ hit port tid + keyed port held)
+      → keyed port (match_ordering o ((tid, v) ∷ e ∷ held) ((e.0, v) ∷ held) (e ∷ more)) ≡ hit port tid + keyed port
+      (e ∷ held)
+  keyed_inserted_at Less port tid v e held more o absent rest = refl
+  keyed_inserted_at Equal port tid v e held more o absent rest =
+      let there : lookup (is_at (nat_cmp tid)) (e ∷ held) ≡ Some e.1 = rw o refl in absurd (cc)
+  keyed_inserted_at Greater port tid v e held more o absent rest =
+      let there : lookup (is_at (nat_cmp tid)) held ≡ None = rw o at absent in
+      let one = rest there in
+      omega (arith, one)
+
+  pub keyed_inserted : (port tid : ℕ) (v : T) (held : List (ℕ × T)) → lookup (is_at (nat_cmp tid)) held ≡ None →
+      keyed port (insert_entry nat_cmp held tid v) ≡ hit port tid + keyed port held
+  keyed_inserted port tid v [] absent = refl
+  keyed_inserted port tid v (e ∷ held) absent =
+      keyed_inserted_at (nat_cmp tid e.0) port tid v e held (insert_entry nat_cmp held tid v) refl absent
+      (keyed_inserted port tid v held)
+
+  keyed_set_at : (b : Bool) (port : ℕ) (v : T) (e : ℕ × T) (held more : List (ℕ × T)) →
+      keyed port more ≡ keyed port held → keyed port (cond b ((e.0, v) ∷ held) (e ∷ more)) ≡ keyed port (e ∷ held)
+  keyed_set_at b port v e held more same = search rules
+
+  pub keyed_set : (test : ℕ → Bool) (port : ℕ) (v : T) (held : List (ℕ × T)) →
+      keyed port (set_value test held v) ≡ keyed port held
+  keyed_set test port v [] = refl
+  keyed_set test port v (e ∷ held) =
+      keyed_set_at (test e.0) port v e held (set_value test held v) (keyed_set test port v held)
+
+  keyed_removed_at : (b : Bool) (port tid : ℕ) (e : ℕ × T) (held more : List (ℕ × T)) (m : Option T) →
+      (b ≡ true → tid ≡ e.0) → (IsSome m → hit port tid + keyed port more ≡ keyed port held)
+      → IsSome (cond b (Some e.1) m) → hit port tid + keyed port (cond b held (e ∷ more)) ≡ keyed port (e ∷ held)
+  keyed_removed_at b port tid e held more m same rest h = search rules
+
+  pub keyed_removed : (port tid : ℕ) (held : List (ℕ × T)) → IsSome (lookup (is_at (nat_cmp tid)) held) →
+      hit port tid + keyed port (remove_entry (is_at (nat_cmp tid)) held) ≡ keyed port held
+  keyed_removed port tid [] h = absurd (cc)
+  keyed_removed port tid (e ∷ held) h =
+      keyed_removed_at (is_eq (nat_cmp tid e.0)) port tid e held (remove_entry (is_at (nat_cmp tid)) held)
+      (lookup (is_at (nat_cmp tid)) held) (compares tid e.0 (nat_cmp tid e.0) refl) (keyed_removed port tid held) h
+
+-- At each time of a run each held transfer has one timer.
 
 -- how many timers have the port
 abbrev timed : ℕ → List Timer → ℕ
@@ -33,106 +210,59 @@ module _ {F D : Type 0} where
   stays_matched : (timers timers' : List Timer) (held held' : List (ℕ × TransferState F D)) →
       ((port : ℕ) → timed port timers' ≡ timed port timers) →
       ((port : ℕ) → keyed port held' ≡ keyed port held) → AreMatched timers held → AreMatched timers' held'
-  stays_matched timers timers' held held' ts hs matched = record {
-    same = λ port. ts port ∙ (matched.same port ∙ sym (hs port));
-    most = λ port. let e = hs port in let l = matched.most port in omega (arith, e, l);
-  }
+  stays_matched timers timers' held held' ts hs matched = search rules
 
   -- a transfer opens at a free port
   opens_matched : (timers : List Timer) (held : List (ℕ × TransferState F D)) (timer : Timer)
       (transfer : TransferState F D) → at timer.port held ≡ None →
       AreMatched timers held → AreMatched (timers ++ timer ∷ []) (with_new timer.port transfer held)
-  opens_matched timers held timer transfer free matched = record {
-    same = λ port.
-        let a = hits_push (λ (t : Timer). t.port) port timers timer in
-        let b = keyed_inserted port timer.port transfer held free in
-        let c = matched.same port in
-        omega (arith, a, b, c);
-    most = λ port.
-        let b = keyed_inserted port timer.port transfer held free in
-        elim (cases_eq port timer.port) [
-          | inl same ↦
-              let none : keyed port held ≡ 0 =
-              subst (λ (p : ℕ). keyed p held ≡ 0) (sym same) (keyed_absent timer.port held free) in
-              let one : hit port timer.port ≡ 1 = ap (hit port) (sym same) ∙ hit_same port in
-              omega (arith, b, none, one)
-          | inr other ↦
-              let none = hit_other port timer.port other in
-              let l = matched.most port in
-              omega (arith, b, none, l)
-        ];
-  }
+  opens_matched timers held timer transfer free matched =
+      search (rules, hits_push, keyed_inserted, cases_eq, keyed_absent, hit_same, hit_other)
 
   -- a transfer is removed with its timer
   closes_matched : (timers : List Timer) (held : List (ℕ × TransferState F D)) (index : ℕ) (timer : Timer) →
       index < length timers → timer ≡ slice_index_or timers index timer →
       IsSome (at timer.port held) → AreMatched timers held →
       AreMatched (swap_remove timers index timer) (without timer.port held)
-  closes_matched timers held index timer within is there matched = record {
-    same = λ port.
-        let a = hits_swap_removed (λ (t : Timer). t.port) port timers index timer within is in
-        let b = keyed_removed port timer.port held there in
-        let c = matched.same port in
-        omega (arith, a, b, c);
-    most = λ port.
-        let b = keyed_removed port timer.port held there in
-        let l = matched.most port in
-        omega (arith, b, l);
-  }
+  closes_matched timers held index timer within is there matched =
+      search (rules, hits_swap_removed, keyed_removed)
 
   -- what was taken was there
   was_there : (o : Option (TransferState F D)) (taken : Record × Option D) → taken_of o ≡ Some taken → IsSome o
   was_there None taken e = absurd (let f : None ≡ Some taken = e in cc)
   was_there (Some transfer) taken e = refl
 
--- progress restarts a timer at its port
-same_timer : (now : ℕ) (progress : Bool) (timer : Timer) → (timer_after now progress timer).port ≡ timer.port
-same_timer now true timer = refl
-same_timer now false timer = refl
-
 module _ {S F D : Type 0} (stores : StoreMeaning S D) (sources : SourceMeaning F) where
-  keeps_keys : (port : ℕ) (o : Option (TransferState F D)) (old new : ServerState S F D) →
-      KeepsHeld stores sources port o old new → (p : ℕ) → keyed p new.held ≡ keyed p old.held
-  keeps_keys port None old new keeps p = ap (λ (s : ServerState S F D). keyed p s.held) keeps
-  keeps_keys port (Some transfer) old new keeps p =
-      ap (keyed p) keeps.2 ∙ keyed_set (is_at (nat_cmp port)) p keeps.0 old.held
+  -- a step at a port leaves the transfers, or has another one in the place of that at the port
+  abbrev LeavesHeld : ℕ → List (ℕ × TransferState F D) → List (ℕ × TransferState F D) → Type 0
+  LeavesHeld port old new = (new ≡ old) ⊎ ((next : TransferState F D) × (new ≡ with_next port next old))
 
-  works_keys : (port : ℕ) (o : Option (TransferState F D)) (old new : ServerState S F D) →
-      WorksAt stores sources port o old new → (p : ℕ) → keyed p new.held ≡ keyed p old.held
-  works_keys port None old new works p = ap (λ (s : ServerState S F D). keyed p s.held) works
-  works_keys port (Some transfer) old new works p =
-      ap (keyed p) works.2 ∙ keyed_set (is_at (nat_cmp port)) p works.0 old.held
+  keeps_held : (port : ℕ) (o : Option (TransferState F D)) (old new : ServerState S F D) →
+      KeepsHeld stores sources port o old new ⊎ WorksAt stores sources port o old new →
+      LeavesHeld port old.held new.held
+  keeps_held port None old new (inl keeps) = inl (ap (λ (s : ServerState S F D). s.held) keeps)
+  keeps_held port None old new (inr works) = inl (ap (λ (s : ServerState S F D). s.held) works)
+  keeps_held port (Some transfer) old new (inl keeps) = inr (keeps.0, keeps.2)
+  keeps_held port (Some transfer) old new (inr works) = inr (works.0, works.2)
 
-  -- a step at a port keeps the port and those of all transfers
-  record StaysAt (old new : PortState S F D) : Type 0 where
-    pub port : new.timer.port ≡ old.timer.port
-    pub keys : (p : ℕ) → keyed p new.server.held ≡ keyed p old.server.held
+  port_held : (now : ℕ) (old new : PortState S F D) → PortStep stores sources now old new →
+      LeavesHeld old.timer.port old.server.held new.server.held
+  port_held now old new (A_datagram d) = inr (d.handles.takes.next, d.handles.takes.held)
+  port_held now old new (A_lost_datagram d) =
+      keeps_held old.timer.port (at old.timer.port old.server.held) old.server new.server (inl d.loses.keeps)
+  port_held now old new (A_timeout d) =
+      inr (record d.times_out.times_out.transfer { end = d.times_out.times_out.end }, d.times_out.times_out.held)
+  port_held now old new (Work d) =
+      keeps_held old.timer.port (at old.timer.port old.server.held) old.server new.server (inr d.works.works)
+  port_held now old new does = inl (ap (λ (s : ServerState S F D). s.held) (server_is does))
 
-  stays_at : (now : ℕ) (old new : PortState S F D) → PortStep stores sources now old new → StaysAt old new
-  stays_at now old new (A_datagram d) = record {
-    port = ap (λ (t : Timer). t.port) d.timer ∙ same_timer now d.step.progress old.timer;
-    keys =
-        λ p. ap (keyed p) d.handles.takes.held ∙ keyed_set (is_at (nat_cmp old.timer.port)) p d.handles.takes.next
-        old.server.held;
-  }
-  stays_at now old new (A_lost_datagram d) = record {
-    port = ap (λ (t : Timer). t.port) d.timer;
-    keys = keeps_keys old.timer.port (at old.timer.port old.server.held) old.server new.server d.loses.keeps;
-  }
-  stays_at now old new (A_timeout d) = record {
-    port = ap (λ (t : Timer). t.port) d.timer;
-    keys =
-        λ p. ap (keyed p) d.times_out.times_out.held ∙ keyed_set (is_at (nat_cmp old.timer.port)) p
-        (record d.times_out.times_out.transfer { end = d.times_out.times_out.end }) old.server.held;
-  }
-  stays_at now old new (Work d) = record {
-    port = ap (λ (t : Timer). t.port) d.timer;
-    keys = works_keys old.timer.port (at old.timer.port old.server.held) old.server new.server d.works.works;
-  }
-  stays_at now old new does = record {
-    port = ap (λ (t : Timer). t.port) (timer_is does);
-    keys = λ p. ap (λ (s : ServerState S F D). keyed p s.held) (server_is does);
-  }
+  -- so it keeps the ports of all transfers
+  port_keys : (now : ℕ) (old new : PortState S F D) → PortStep stores sources now old new → (p : ℕ) →
+      keyed p new.server.held ≡ keyed p old.server.held
+  port_keys now old new does p = elim (port_held now old new does) [
+    | inl same ↦ ap (keyed p) same
+    | inr other ↦ ap (keyed p) other.1 ∙ keyed_set (is_at (nat_cmp old.timer.port)) p other.0 old.server.held
+  ]
 
   -- what the request port leaves
   answers_matched : (now : ℕ) (longest : Option ℕ) (backoff : Backoff) (from : Endpoint) (tid : ℕ) (old : ServerState S F D) (timers : List Timer)
@@ -153,26 +283,22 @@ module _ {S F D : Type 0} (stores : StoreMeaning S D) (sources : SourceMeaning F
   step_matched old new (Waited d) matched =
       subst IsMatched (sym d.is)
       (let set = map (set_by d.watch.now) old.timers in
-      stays_matched old.timers (map (marked_by d.ports) set) old.server.held old.server.held
-      (λ port.
+      stays_matched old.timers (map (marked_by d.ports) set) old.server.held old.server.held (λ port.
       hits_map (λ (t : Timer). t.port) port set (marked_by d.ports) (λ t. refl)
-      ∙ hits_map (λ (t : Timer). t.port) port old.timers (set_by d.watch.now) (λ t. refl)) (λ port. refl)
-      matched)
+      ∙ hits_map (λ (t : Timer). t.port) port old.timers (set_by d.watch.now) (λ t. refl)) (λ port. refl) matched)
   step_matched old new (At_port d) matched =
-      let stays =
-      stays_at old.now (record { server = old.server; timer = d.timer; events = old.events }) d.next d.does in
       subst IsMatched (sym d.is)
       (stays_matched old.timers (slice_set old.timers d.index d.next.timer) old.server.held d.next.server.held
-      (λ port. hits_set (λ (t : Timer). t.port) port old.timers d.index d.timer d.next.timer d.is_timer stays.port)
-      stays.keys matched)
+      (λ port. hits_set (λ (t : Timer). t.port) port old.timers d.index d.timer d.next.timer d.is_timer
+      (stays_at stores sources old.now (port_state old d.timer) d.next d.does).port)
+      (port_keys old.now (port_state old d.timer) d.next d.does) matched)
   step_matched old new (Request_answered d) matched =
       subst IsMatched (sym d.is)
       (subst (λ (left : Left S F D). AreMatched (with_timer old.now old.longest old.backoff d.from left.opened.tid left.new.held
       old.timers) left.new.held) (sym d.steps.left)
       (answers_matched old.now old.longest old.backoff d.from d.tid old.server old.timers d.steps.came d.free matched))
   step_matched old new (Transfer_closed d) matched =
-      subst IsMatched (sym d.is)
-      (closes_matched old.timers old.server.held d.index d.timer d.within d.is_timer
+      subst IsMatched (sym d.is) (closes_matched old.timers old.server.held d.index d.timer d.within d.is_timer
       (was_there (at d.timer.port old.server.held) d.taken d.is_taken) matched)
   step_matched old new does matched = subst IsMatched (sym (state_is does)) matched
 
@@ -182,32 +308,19 @@ module _ {S F D : Type 0} (stores : StoreMeaning S D) (sources : SourceMeaning F
 
   start_matched : (config : LoopConfig) (port reading : ℕ) (first : ServerState S F D) (before : List SocketEvent) →
       first.held ≡ [] → IsMatched (at_start config port first reading before)
-  start_matched config port reading first before none =
-      subst (AreMatched []) (sym none) (record { same = λ p. refl; most = λ p. omega arith })
+  start_matched config port reading first before none = search rules
 
   -- a timer is of a held transfer, and a held transfer has a timer
   held_by : (state : LoopState S F D) → IsMatched state → (port : ℕ) → Contains (timer_ports state.timers) port →
       IsSome (at port state.server.held)
-  held_by state matched port timer =
-      let some = hits_contained (λ (t : Timer). t.port) port state.timers timer.0 timer.1 timer.2 in
-      let e = matched.same port in
-      keyed_found port state.server.held (omega (arith, some, e))
+  held_by state matched port timer = search (rules, hits_contained, keyed_found)
 
   timed_by : (state : LoopState S F D) → IsMatched state → (port : ℕ) → IsSome (at port state.server.held) →
       Contains (timer_ports state.timers) port
-  timed_by state matched port there =
-      let some = keyed_present port state.server.held there in
-      let e = matched.same port in
-      contains_hit (λ (t : Timer). t.port) port state.timers (omega (arith, some, e))
+  timed_by state matched port there = search (rules, keyed_present, contains_hit)
 
   one_each : (state : LoopState S F D) → IsMatched state → HasOneTimerEach state
-  one_each state matched = record {
-    timers =
-        hits_apart (λ (t : Timer). t.port) state.timers
-        (λ port. let e = matched.same port in let l = matched.most port in omega (arith, e, l));
-    transfers = hits_apart (λ (e : ℕ × TransferState F D). e.0) state.server.held matched.most;
-    same = λ port. (held_by state matched port, timed_by state matched port);
-  }
+  one_each state matched = search (rules, hits_apart, held_by, timed_by)
 
   pub one_timer_each : (config : LoopConfig) (port reading : ℕ) (first : ServerState S F D) (before : List SocketEvent)
       (now : LoopState S F D) → first.held ≡ [] →

@@ -1,18 +1,86 @@
--- What one program noted of an order of events, and lists with one element per client.
-use Rattle.tftp_promises.proofs.Common.{◌≡◌, ℕ, List, [], ◌∷◌, length, map, set, Bool, true, false, Option, Some, None}
-use Rattle.tftp_promises.proofs.Common.{refl, sym, ap, ◌∙◌, subst, zero, suc, arith, inl, inr, rules, ◌≢◌, ◌==◌}
-use Rattle.tftp_promises.proofs.Common.{if◌then◌else◌, slice_get, option_map, Contains, eq-eqb, Contains-append_cases}
-use Rattle.tftp_promises.proofs.Common.{Contains-append_left, Contains-append_right, Contains-push, same_Some}
-use Rattle.tftp_promises.proofs.Common.{SocketEvent, Noted, events_of}
-use Rattle.std.proofs.lemmas.Bool.{cond-true}
+-- Elements of lists; the events of one step, of which what was sent is the answer; what one program noted of an order
+-- of events; and lists with one element per client.
+use Rattle.tftp_promises.proofs.Common.{List, ℕ, ◌≡◌, rules, sym, Endpoint, refl, [], ◌∙◌, ap, Some, subst, inl, inr}
+use Rattle.tftp_promises.proofs.Common.{◌∷◌, false, true, None, ◌++◌, Bool, ◌⊎◌, Contains, SocketEvent, Option, arith}
+use Rattle.tftp_promises.proofs.Common.{◌≢◌, length, slice_get, Sent, if◌then◌else◌, same_Some, suc, Noted, ◌==◌, zero}
+use Rattle.tftp_promises.proofs.Common.{Contains-push, Reply, Elapsed, eq-eqb, append_cancel_right, map, Printed}
+use Rattle.tftp_promises.proofs.Common.{events_of, Contains-append_cases, answered, Contains-append_left, set}
+use Rattle.tftp_promises.proofs.Common.{common_steps, Contains-append_right, AllByRecursion, option_map, cond-true}
 
--- ---- elements
-
-nothing_in : {X : Type 0} (x : X) → Contains [] x → ⊥
-nothing_in x i = let l = i.1 in omega arith
+pub nothing_in : {X : Type 0} (x : X) → Contains [] x → ⊥
+nothing_in x h = let l = h.1 in omega arith
 
 pub one_in : {X : Type 0} (x y : X) → Contains (y ∷ []) x → y ≡ x
 one_in x y i = search rules
+
+-- an event is the first one, or one of the others
+pub first_or_more : {X : Type 0} (x y : X) (xs : List X) → Contains (x ∷ xs) y → (x ≡ y) ⊎ Contains xs y
+first_or_more x y xs c = search rules
+
+-- nothing was sent
+abbrev pub IsSilent : List SocketEvent → Type 0
+IsSilent events = (port : ℕ) (to : Endpoint) (bytes : List ℕ) → Contains events (Sent port to bytes) → ⊥
+
+-- only this answer was sent, from this port
+abbrev pub SendsOnly : ℕ → Option Reply → List SocketEvent → Type 0
+SendsOnly own reply events =
+    (port : ℕ) (to : Endpoint) (bytes : List ℕ) → Contains events (Sent port to bytes) →
+    (own ≡ port) × (reply ≡ Some (record { to = to; bytes = bytes }))
+
+-- the events that a step adds
+pub added_by : (port : ℕ) (reply : Option Reply) (events rest added : List SocketEvent) →
+    answered port reply (events ++ rest) ≡ added ++ rest → answered port reply events ≡ added
+added_by port None events rest added e = append_cancel_right events added rest e
+added_by port (Some reply) events rest added e =
+    append_cancel_right (Sent port reply.to reply.bytes ∷ events) added rest e
+
+-- they have all others
+pub answered_has : (port : ℕ) (reply : Option Reply) (events : List SocketEvent) (e : SocketEvent) → Contains events e →
+    Contains (answered port reply events) e
+answered_has port None events e c = c
+answered_has port (Some reply) events e c = Contains-append_right (Sent port reply.to reply.bytes ∷ []) events e c
+
+-- and the answer
+same_sent : (own port : ℕ) (reply : Reply) (to : Endpoint) (bytes : List ℕ) →
+    Sent own reply.to reply.bytes ≡ Sent port to bytes →
+    (own ≡ port) × (Some reply ≡ Some (record { to = to; bytes = bytes }))
+same_sent own port reply to bytes e = search rules
+
+pub answered_sends : (own : ℕ) (reply : Option Reply) (events : List SocketEvent) → IsSilent events →
+    SendsOnly own reply (answered own reply events)
+answered_sends own None events silent port to bytes c = absurd (silent port to bytes c)
+answered_sends own (Some reply) events silent port to bytes c =
+    elim (first_or_more (Sent own reply.to reply.bytes) (Sent port to bytes) events c) [
+      | inl e ↦ same_sent own port reply to bytes e
+      | inr more ↦ absurd (silent port to bytes more)
+    ]
+
+-- no datagram that was sent
+abbrev pub IsUnsent : SocketEvent → Type 0
+IsUnsent (Sent port to bytes) = ⊥
+IsUnsent event = Unit {0}
+
+pub unsent_silent : (events : List SocketEvent) → AllByRecursion IsUnsent events → IsSilent events
+unsent_silent events unsent port to bytes c = grind (arith, common_steps)
+
+-- a timeout was due
+pub elapsed_silent : (own time : ℕ) → IsSilent (Elapsed own time ∷ [])
+elapsed_silent own time port to bytes c = search rules
+
+pub none_silent : IsSilent []
+none_silent port to bytes c = nothing_in (Sent port to bytes) c
+
+-- a step that adds no event
+pub added_none : (events added : List SocketEvent) → events ≡ added ++ events → [] ≡ added
+added_none events added e = append_cancel_right [] added events e
+
+-- a line was printed
+pub printed_silent : (line : List ℕ) → IsSilent (Printed line ∷ [])
+printed_silent line port to bytes c = search rules
+
+-- What one program noted of an order of events, and lists with one element per client.
+
+-- ---- elements
 
 pub first_in : {X : Type 0} (x : X) (xs : List X) → Contains (x ∷ xs) x
 first_in x xs = Contains-append_left (x ∷ []) xs x (Contains-push [] x)
@@ -69,3 +137,8 @@ pub mapped : {X Y : Type 0} (f : X → Y) (o : Option X) (y : Y) → option_map 
     (x : X) × (o ≡ Some x) × (f x ≡ y)
 mapped f None y e = absurd (let n : None ≡ Some y = e in cc)
 mapped f (Some x) y e = (x, refl, same_Some (f x) y e)
+
+-- ---- of what is pending
+pub both_parts : (a b : Endpoint) (x y : List ℕ) (o : Option (Endpoint × List ℕ)) → o ≡ Some (a, x) →
+    o ≡ Some (b, y) → (a ≡ b) × (x ≡ y)
+both_parts a b x y o e f = search rules

@@ -1,10 +1,9 @@
 -- A client takes no answer of other servers where there are none.
-use Rattle.tftp_promises.proofs.Common.{ℕ, List, [], rules, SinkMeaning, SourceMeaning, Files, StoreMeaning, State}
-use Rattle.tftp_promises.proofs.Common.{HandlesReceived, Answers, Loses, Endpoint, ClientDoes, ClientRun, Starts}
-use Rattle.tftp_promises.proofs.Common.{Goes_on, Receives_one, Reads_clock, Waits_until, Times_out, File_works}
-use Rattle.tftp_promises.proofs.Common.{Prints_line, DoesOwn, HandlesOwn, TakesOwn}
+use Rattle.tftp_promises.proofs.Common.{List, ℕ, rules, Endpoint, [], SourceMeaning, StoreMeaning, SinkMeaning, Files}
+use Rattle.tftp_promises.proofs.Common.{State, Receives_one, ClientDoes, Answers, TakesOwn, Goes_on, ClientRun, Starts}
+use Rattle.tftp_promises.proofs.Common.{HandlesReceived, Loses, DoesOwn, HandlesOwn}
 use Rattle.tftp_promises.specs.Joined.{ServersAloneAreJoined}
-use Rattle.tftp_promises.proofs.KeptEvents.{nothing_in}
+use Rattle.tftp_promises.proofs.Orders.{nothing_in}
 
 module _ {G K : Type 0} {inputs : SourceMeaning G} {outputs : SinkMeaning K} (ip : List ℕ) where
   handles_none : {port : ℕ} {from : Endpoint} {bytes : List ℕ} {s next : State} {files files' : Files G K}
@@ -15,11 +14,7 @@ module _ {G K : Type 0} {inputs : SourceMeaning G} {outputs : SinkMeaning K} (ip
   does_none : {port : ℕ} {s s' : State} {files files' : Files G K}
       (does : ClientDoes inputs outputs port s files s' files') → DoesOwn ip [] does
   does_none (Receives_one may later handles) = handles_none handles
-  does_none (Reads_clock progress later) = tt
-  does_none (Waits_until may event later) = tt
-  does_none (Times_out elapses) = tt
-  does_none (File_works works) = tt
-  does_none (Prints_line line) = tt
+  does_none does = tt
 
   pub takes_none : {port : ℕ} {first : State} {file : Files G K} {s : State} {files : Files G K}
       (run : ClientRun inputs outputs port first file s files) → TakesOwn ip [] run

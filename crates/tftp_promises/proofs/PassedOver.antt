@@ -1,23 +1,20 @@
 -- A server that a client passes over: for these two the client has sent its request, and no more.
-use Rattle.tftp_promises.proofs.Common.{common_steps, ◌≡◌, ℕ, List, [], ◌∷◌, ◌++◌, Bool, true, false, Some, None, refl}
-use Rattle.tftp_promises.proofs.Common.{sym, ap, ◌∙◌, subst, zero, suc, arith, inl, inr, rules, ◌≢◌, ◌⊎◌, ◌==◌}
-use Rattle.tftp_promises.proofs.Common.{if◌then◌else◌, slice_get, Contains, cases_Bool, eq-eqb, eqb-true, true≢false}
-use Rattle.tftp_promises.proofs.Common.{same_Some, IsPrefixOf, SinkMeaning, SourceMeaning, is_complete, is_sender}
-use Rattle.tftp_promises.proofs.Common.{StoreMeaning, Endpoint, SocketEvent, Received, Sent, Watched, Elapsed, Printed}
-use Rattle.tftp_promises.proofs.Common.{Quiet, Run, LoopState, LoopStep, alone, heard_with, IsEnd, IsOurs, KeepAnyFiles}
-use Rattle.tftp_promises.proofs.Common.{ProgramEnd, client_end, AreJoined, ArePortsFresh, our_ports, CanCome, IsHonest}
-use Rattle.tftp_promises.proofs.Common.{IsOrder, IsStranger, MayCome, Noted, Programs, events_of, ips, TakesOwn}
-use Rattle.tftp_promises.proofs.Common.{AreDistinct, client_at, endpoint, Several, number_of}
+use Rattle.tftp_promises.proofs.Common.{List, ℕ, ◌≡◌, rules, sym, Endpoint, refl, [], ◌∙◌, ap, SourceMeaning, Some}
+use Rattle.tftp_promises.proofs.Common.{subst, inl, StoreMeaning, inr, ◌∷◌, SinkMeaning, false, true, None, ◌++◌}
+use Rattle.tftp_promises.proofs.Common.{Programs, Bool, ◌⊎◌, Contains, SocketEvent, true≢false, arith, ◌≢◌, LoopState}
+use Rattle.tftp_promises.proofs.Common.{slice_get, LoopStep, Sent, if◌then◌else◌, is_sender, client_at, Received}
+use Rattle.tftp_promises.proofs.Common.{endpoint, same_Some, Run, suc, IsStranger, Noted, ◌==◌, cases_Bool, zero}
+use Rattle.tftp_promises.proofs.Common.{IsPrefixOf, Elapsed, our_ports, eq-eqb, Watched, Printed, is_complete}
+use Rattle.tftp_promises.proofs.Common.{AreJoined, events_of, Quiet, client_end, common_steps, TakesOwn, ArePortsFresh}
+use Rattle.tftp_promises.proofs.Common.{MayCome, ProgramEnd, IsEnd, IsHonest, eqb-true, heard_with, alone, CanCome}
+use Rattle.tftp_promises.proofs.Common.{number_of, AreDistinct, IsOrder, ips, KeepAnyFiles, IsOurs, OneClient, IsAtOf}
+use Rattle.tftp_promises.proofs.Common.{Several, OneServer, has_of, WasSent}
 use Rattle.tftp_rules.proofs.ViewSafe.{first_of_empty}
 use Rattle.tftp_promises.specs.Alone.{HasNothing, IsPassedOver, OthersHaveNothing, just_asking}
-use Rattle.tftp_promises.specs.AnyFiles.{has_of, peer_of}
-use Rattle.tftp_promises.specs.Order.{IsAtOf, WasSent}
-use Rattle.tftp_promises.specs.Several.{OneClient, OneServer}
-use Rattle.tftp_promises.proofs.ClientTraces.{asks_first, asks_there}
-use Rattle.tftp_promises.proofs.EachAlone.{honest_both, order_both, sent_own}
-use Rattle.tftp_promises.proofs.KeptEvents.{first_or_more, nothing_in}
-use Rattle.tftp_promises.proofs.Orders.{first_in, later_in, noted_in}
-use Rattle.tftp_promises.proofs.ProgramsShown.{programs_keep_any}
+use Rattle.tftp_promises.specs.AnyFiles.{peer_of}
+use Rattle.tftp_promises.proofs.ClientTraces.{asks_first, asks_there, sent_own}
+use Rattle.tftp_promises.proofs.EachAlone.{honest_both, order_both, programs_keep_any}
+use Rattle.tftp_promises.proofs.Orders.{first_or_more, nothing_in, first_in, later_in, noted_in}
 
 -- ---- the first event of a client
 -- of an order, the events of the server, and the first of the client
@@ -57,8 +54,7 @@ module _ (x : SocketEvent) where
       subst (λ (b : Bool). Begins x (if b then e.1 ∷ events_of 1 order else events_of 1 order)) is h
 
   server_first : (member : Bool) (events : List SocketEvent) (e : Noted) (order rest : List Noted) → (e.0 == 1) ≡ member →
-      events_of 0 rest ≡ events_of 0 order →
-      events_of 0 (by_member member events e rest) ≡ events_of 0 (e ∷ order)
+      events_of 0 rest ≡ events_of 0 order → events_of 0 (by_member member events e rest) ≡ events_of 0 (e ∷ order)
   server_first member events e order rest is same = search rules
 
   pub server_all : (order : List Noted) → events_of 0 (first_only order) ≡ events_of 0 order
@@ -101,8 +97,7 @@ module _ {S F D G K : Type 0} {stores : StoreMeaning S D} {sources : SourceMeani
     {outputs : SinkMeaning K}
     (several : Several stores sources inputs outputs) (all : List Noted) (i : ℕ) (server : OneServer several) (k : ℕ)
     (client : OneClient several) (at_i : slice_get several.servers i ≡ Some server)
-    (found : slice_get several.clients k ≡ Some client)
-    (over : IsPassedOver several all i server k client) where
+    (found : slice_get several.clients k ≡ Some client) (over : IsPassedOver several all i server k client) where
   abbrev there : Endpoint
   there = endpoint client.ip client.port
 
@@ -209,7 +204,7 @@ module _ {S F D G K : Type 0} {stores : StoreMeaning S D} {sources : SourceMeani
         λ none. nothing_in (Sent port to bytes) (subst (λ (es : List SocketEvent). Contains es (Sent port to bytes)) none
         events) in
         let own_port : port ≡ client.port =
-        sent_own several all i server k client at_i found over.among client port to bytes
+        sent_own client port to bytes
         (subst (λ (es : List SocketEvent). Contains es (Sent port to bytes)) (order_is.clients 0 client refl)
         (noted_in 1 (Sent port to bytes) heard (within (1, Sent port to bytes) sent))) in
         let here : from ≡ there = at ∙ ap (λ (p : ℕ). endpoint client.ip p) own_port in

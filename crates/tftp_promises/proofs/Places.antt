@@ -1,18 +1,16 @@
 -- Where the programs are in their network.
-use Rattle.tftp_promises.proofs.Common.{◌≡◌, ℕ, Bool, true, false, List, [], ◌∷◌, None, Some, refl, sym, ap, ◌∙◌, subst}
-use Rattle.tftp_promises.proofs.Common.{zero, suc, arith, inl, inr, rules, ◌≢◌, ◌==◌, ◌&&◌, if◌then◌else◌, slice_get}
-use Rattle.tftp_promises.proofs.Common.{Contains, cases_Bool, cases_eq, eq-eqb, ne_eqb, true≢false}
-use Rattle.tftp_promises.proofs.Common.{Contains-append_cases, Contains-append_left, Contains-append_right}
-use Rattle.tftp_promises.proofs.Common.{Contains-push, SinkMeaning, SourceMeaning, StoreMeaning, Endpoint, At_server}
-use Rattle.tftp_promises.proofs.Common.{At_client, Elsewhere, is_same, same_self, is_ours, Programs, IsStranger}
-use Rattle.tftp_promises.proofs.Common.{ClientOf, endpoint, ClientProgram, client_at, joined}
-use Rattle.std.specs.Prelude.{not}
-use Rattle.std.proofs.lemmas.Bool.{cond-true, cond-false, false_from_ne_true}
-use Rattle.tftp_rules.specs.Machine.{Host}
-use Rattle.tftp_rules.proofs.Endpoints.{same_ip, same_other}
+use Rattle.tftp_promises.proofs.Common.{List, ℕ, ◌≡◌, rules, sym, Endpoint, refl, [], ◌∙◌, ap, SourceMeaning, Some}
+use Rattle.tftp_promises.proofs.Common.{subst, inl, StoreMeaning, inr, ◌∷◌, SinkMeaning, false, true, None, ◌++◌}
+use Rattle.tftp_promises.proofs.Common.{Programs, Bool, Contains, true≢false, arith, ◌≢◌, LoopState, length, slice_get}
+use Rattle.tftp_promises.proofs.Common.{LoopStep, joined, ClientOf, if◌then◌else◌, client_at, endpoint, Run, suc}
+use Rattle.tftp_promises.proofs.Common.{IsStranger, Then, Start, ◌==◌, cases_Bool, zero, Contains-push, not, cases_eq}
+use Rattle.tftp_promises.proofs.Common.{eq-eqb, map, Contains-append_cases, Request_answered, Contains-append_left}
+use Rattle.tftp_promises.proofs.Common.{Elsewhere, Contains-append_right, ◌&&◌, is_ours, opened_ports, ClientProgram}
+use Rattle.tftp_promises.proofs.Common.{ne_eqb, option_to_list, At_server, place, At_client, same_self, is_same, Host}
+use Rattle.tftp_promises.proofs.Common.{has_port, same_ip, same_other, cond-true}
+use Rattle.std.proofs.lemmas.Bool.{cond-false, false_from_ne_true}
 use Rattle.tftp_promises.specs.Hosts.{ClientsAreThere, ServerIsThere, StrangersAreElsewhere}
-use Rattle.tftp_promises.specs.Programs.{has_client, has_port}
-use Rattle.tftp_promises.specs.Programs.{is_at_server}
+use Rattle.tftp_promises.specs.Programs.{has_client, is_at_server}
 use Rattle.tftp_promises.proofs.Orders.{one_in}
 
 abbrev at_of : Bool → Bool → Host
@@ -104,9 +102,7 @@ module _ {S F D G K : Type 0} {stores : StoreMeaning S D} {sources : SourceMeani
   clients_there k client i = search (rules, has_own)
 
   -- a port of the server's address that no client and no other server has is at the server
-  pub at_port : (port : ℕ) →
-      ((k : ℕ) (client : ClientOf programs) →
-      slice_get programs.clients k ≡ Some client →
+  pub at_port : (port : ℕ) → ((k : ℕ) (client : ClientOf programs) → slice_get programs.clients k ≡ Some client →
       client_at client ≢ endpoint programs.ip port) →
       (Contains programs.others port → ⊥) → (joined programs).host_of (endpoint programs.ip port) ≡ At_server
   at_port port none own = search (rules, has_none, near_by)
@@ -148,3 +144,16 @@ module _ {S F D G K : Type 0} {stores : StoreMeaning S D} {sources : SourceMeani
 
   pub stranger_no_port : (a : Endpoint) → (joined programs).host_of a ≡ At_server → IsStranger programs a → ⊥
   stranger_no_port a there h = search (rules, strange_elsewhere)
+
+  -- Where a run opened its transfers.
+  -- by a step
+  abbrev pub placed_by : {first old new : LoopState S F D} → Run (LoopStep stores sources) first old →
+      LoopStep stores sources old new → List Endpoint
+  placed_by run (Request_answered answers) =
+      map (place programs (length (opened_ports run)) answers.from) (option_to_list answers.left.opened.tid)
+  placed_by run does = []
+
+  -- and by all of them
+  abbrev pub places : {first last : LoopState S F D} → Run (LoopStep stores sources) first last → List Endpoint
+  places Start = []
+  places (Then run does) = placed_by run does ++ places run

@@ -1,40 +1,34 @@
 -- A datagram that the server handles at the port of a transfer keeps the invariant.
-use Rattle.tftp_promises.proofs.Common.{◌≡◌, ℕ, Bool, true, false, List, [], ◌∷◌, ◌++◌, None, refl, sym, ap, ◌∙◌, subst}
-use Rattle.tftp_promises.proofs.Common.{inl, inr, rules, ◌≢◌, ◌⊎◌, is_some, ⊤, true≢false, cases_Bool, has_error_opcode}
-use Rattle.tftp_promises.proofs.Common.{Spells, IsPrefixOf, Holding, SinkMeaning, SourceMeaning, Files, Source, Sink}
-use Rattle.tftp_promises.proofs.Common.{Action, Respond, Response, UnknownTransferId, Role, datagram_action, EndState}
-use Rattle.tftp_promises.proofs.Common.{is_sender, outcome_of, AreSame, Reply, Turn, Acts, DatagramStep, after_turn}
-use Rattle.tftp_promises.proofs.Common.{error_bytes, StoreMeaning, Opening, Drafting, files_in, drafting_sink}
-use Rattle.tftp_promises.proofs.Common.{ServerState, with_next, StepIn, Config, SocketEvent, Received, LoopState}
-use Rattle.tftp_promises.proofs.Common.{ServesPort, At_port, PortStep, port_state, Stands, Goes, known_source}
-use Rattle.tftp_promises.proofs.Common.{known_sink, Endpoint, Elsewhere, OpenEnd, files_of, end_after, open_view}
-use Rattle.tftp_promises.proofs.Common.{peer_of, IsUnblamed, HadStore, StoreBegan, GaveSince, StoreOpened, Moved}
-use Rattle.tftp_promises.proofs.Common.{port_moves, step_moves, is_ours, moved_at, opened_at, place_at, Programs}
-use Rattle.tftp_promises.proofs.Common.{IsStranger, endpoint, joined, Snapshot, server_did}
-use Rattle.std.specs.Prelude.{Option}
-use Rattle.tftp_wire.specs.declared.packet.Packet.{Packet as WirePacket}
-use Rattle.tftp_ends.specs.End.{Position}
-use Rattle.tftp_ends.specs.Step.{with_position}
+use Rattle.tftp_promises.proofs.Common.{List, ℕ, ◌≡◌, rules, sym, Endpoint, refl, [], ◌∙◌, ap, SourceMeaning, subst}
+use Rattle.tftp_promises.proofs.Common.{inl, StoreMeaning, inr, ◌∷◌, SinkMeaning, false, true, None, ◌++◌, Programs}
+use Rattle.tftp_promises.proofs.Common.{Bool, EndState, ◌⊎◌, Files, SocketEvent, Option, true≢false, ◌≢◌, LoopState}
+use Rattle.tftp_promises.proofs.Common.{joined, outcome_of, OpenEnd, is_sender, Received, endpoint, Snapshot, Turn}
+use Rattle.tftp_promises.proofs.Common.{IsStranger, Moved, open_view, Sink, Source, ServerState, Spells, WirePacket}
+use Rattle.tftp_promises.proofs.Common.{cases_Bool, IsPrefixOf, after_turn, Reply, DatagramStep, server_did, place_at}
+use Rattle.tftp_promises.proofs.Common.{moved_at, peer_of, Action, drafting_sink, PortStep, with_next, Role, opened_at}
+use Rattle.tftp_promises.proofs.Common.{Elsewhere, Acts, Respond, end_after, datagram_action, Config, error_bytes}
+use Rattle.tftp_promises.proofs.Common.{GaveSince, is_some, Holding, port_state, has_error_opcode, is_ours, known_sink}
+use Rattle.tftp_promises.proofs.Common.{known_source, IsUnblamed, files_of, Opening, AreSame, files_in, ⊤, step_moves}
+use Rattle.tftp_promises.proofs.Common.{Goes, Drafting, StoreOpened, ServesPort, Stands, Response, StepIn}
+use Rattle.tftp_promises.proofs.Common.{UnknownTransferId, port_moves, ReceivesAndHandles, HadStore, StoreBegan}
+use Rattle.tftp_promises.proofs.Common.{Position, with_position, datagram_goes}
+use Rattle.tftp_loop.specs.Steps.{At_port, A_datagram, AnswersDatagram}
 use Rattle.tftp_server.specs.Steps.{TakesDatagramLent}
-use Rattle.tftp_loop.specs.Steps.{A_datagram, AnswersDatagram}
-use Rattle.tftp_loop.specs.Steps.{ReceivesAndHandles}
 use Rattle.tftp_rules.specs.EndShown.{IsOpenAt}
-use Rattle.tftp_rules.proofs.EndTurns.{datagram_goes}
-use Rattle.tftp_promises.proofs.ClosedEnds.{ClosedAnswers, closed_datagram_goes, wrong_datagram_goes}
+use Rattle.tftp_promises.proofs.ClosedEnds.{ClosedAnswers, closed_datagram_goes, wrong_datagram_goes, has_peer, same_in}
+use Rattle.tftp_promises.proofs.ClosedEnds.{datagram_stays, stays_strangers, wrong_peer, wrong_replies}
 use Rattle.tftp_promises.proofs.Invariant.{GaveSo, TookBy, TookSo, IsGiven, IsOpened, IsTaken, IsToldAt, length_of}
 use Rattle.tftp_promises.proofs.Invariant.{place_text, HasArrived, HasStored, IsThere, TransferKept, IsKept, IsFreshBy}
-use Rattle.tftp_promises.proofs.Invariant.{IsStrangers, SendsText}
-use Rattle.tftp_promises.proofs.DraftsTake.{took_longer}
+use Rattle.tftp_promises.proofs.Invariant.{IsStrangers, SendsText, stored_opened}
+use Rattle.tftp_promises.proofs.MovedStores.{took_longer}
 use Rattle.tftp_promises.proofs.MovedFiles.{GivenSo, GotSo, MovesOver, TakenSo, files_move}
 use Rattle.tftp_promises.proofs.MovedSteps.{moves_here, none_at_port, none_beside}
 use Rattle.tftp_promises.proofs.Places.{not_ours}
-use Rattle.tftp_promises.proofs.PortEnds.{has_peer, same_in}
-use Rattle.tftp_promises.proofs.PortSteps.{no_outcome, datagram_silent, server_is, stays_by, sends_only}
-use Rattle.tftp_promises.proofs.ServerStays.{stored_after}
-use Rattle.tftp_promises.proofs.WrongPeers.{datagram_stays, stays_strangers, wrong_peer, wrong_replies}
-use Rattle.tftp_promises.proofs.TurnsAtPort.{Becomes, IsSeated, turn_keeps}
+use Rattle.tftp_promises.proofs.PortWork.{no_outcome, datagram_silent, server_is, stays_by, sends_only}
+use Rattle.tftp_promises.proofs.KeptServer.{stored_after}
+use Rattle.tftp_promises.proofs.KeptPorts.{Becomes, IsSeated, turn_keeps}
 use Rattle.tftp_promises.proofs.Texts.{pad_to}
-use Rattle.tftp_promises.proofs.UnblamedTurns.{apart_from_requests, turn_unblamed}
+use Rattle.tftp_promises.proofs.NewPlaces.{apart_from_requests, turn_unblamed}
 
 module _ {S F D G K : Type 0} {stores : StoreMeaning S D} {sources : SourceMeaning F} {inputs : SourceMeaning G}
     {outputs : SinkMeaning K} {programs : Programs stores sources inputs outputs} {pad : ℕ} {old : Snapshot programs}
@@ -339,16 +333,11 @@ module _ {S F D G K : Type 0} {stores : StoreMeaning S D} {sources : SourceMeani
         since =
             subst (λ (p : List ℕ). TookBy stores Been p replaces has.taken.first x before.bytes draft) was.path
             (subst (λ (r : Bool). TookBy stores Been x.path r has.taken.first x before.bytes draft) (sym replace_is)
-            (took_longer (λ store been. inr been)
-            (subst (λ (a : Endpoint). TookBy stores (HadStore old.run) x.path
+            (took_longer (λ store been. inr been) (subst (λ (a : Endpoint). TookBy stores (HadStore old.run) x.path
             programs.server.start.server.config.overwrite has.taken.first x (moved_at programs a old.run).bytes draft)
             x_place has.taken.since)));
       },
     )
-
-    opened_then : (files : Files F D) → HasStored pad old x files → IsOpened programs old.run x
-    opened_then (Source source) has = has.opened
-    opened_then (Sink draft) has = has.opened
 
     text_is : (files : Files F D) → HasStored pad old x files →
         is_sender x.state.role.side ≡ true → x.text ≡ place_text programs pad place
@@ -360,7 +349,7 @@ module _ {S F D G K : Type 0} {stores : StoreMeaning S D} {sources : SourceMeani
     long : (files : Files F D) → HasStored pad old x files →
         length_of (opened_at programs place programs.server.run) ≡ x.state.role.length
     long files has =
-        let h = opened_then files has in
+        let h = stored_opened pad old x files has in
         ap length_of (sym told.opened ∙ (ap (λ (a : Endpoint). opened_at programs a old.run) (sym x_place) ∙ h.opened))
         ∙ ap (λ (r : Role). r.length) h.role
 
@@ -399,8 +388,7 @@ module _ {S F D G K : Type 0} {stores : StoreMeaning S D} {sources : SourceMeani
           moved_after (λ (y : OpenEnd) (m : Moved). TookBy stores Been x.path
           programs.server.start.server.config.overwrite h.first y m.bytes draft) content
           (subst (λ (r : Bool). TookBy stores Been x.path r h.first (end_after x turn content) moved_then.bytes
-          draft) replace_is
-          (subst (λ (p : List ℕ). TookBy stores Been p replaces h.first (end_after x turn content)
+          draft) replace_is (subst (λ (p : List ℕ). TookBy stores Been p replaces h.first (end_after x turn content)
           moved_then.bytes draft) (sym was.path) h.since));
     }
 

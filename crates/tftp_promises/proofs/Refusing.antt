@@ -1,21 +1,29 @@
 -- Which first answers a waiting client refuses. For the law a_client_ends_for_a_reason.
-use Rattle.tftp_promises.proofs.Common.{◌≡◌, ℕ, ◌+◌, ◌*◌, ◌≤◌, Bool, true, false, not, List, [], Option, Some, None}
-use Rattle.tftp_promises.proofs.Common.{Result, Ok, Err, refl, sym, ◌∙◌, subst, inl, inr, ◌⊎◌, ◌&&◌, ◌==◌}
-use Rattle.tftp_promises.proofs.Common.{if◌then◌else◌, is_none, nat_le, nat_lt, true≢false, has_error_opcode, Mode}
-use Rattle.tftp_promises.proofs.Common.{Packet, Data, Ack, Error, Asked, Known, DEFAULT_BLOCK, Refusal, Action, Respond}
-use Rattle.tftp_promises.proofs.Common.{Send, Store, Ignore, WrongPeer, ResendReply, Refuse, Outcome, Phase, Waiting}
-use Rattle.tftp_promises.proofs.Common.{Terms, Role, datagram_action, garbled_response, is_wrong_peer, packet_action}
-use Rattle.tftp_promises.proofs.Common.{same_address, EndState, is_sender, terms_of, data_action, next_action}
-use Rattle.tftp_promises.proofs.Common.{illegal_action, is_readable, accept_action, begin_action, begin_with_action}
-use Rattle.tftp_promises.proofs.Common.{default_terms, reader_action, agreed_terms, writer_action, size}
-use Rattle.std.specs.Prelude.{length}
+use Rattle.tftp_promises.proofs.Common.{List, ℕ, ◌≡◌, rules, sym, Endpoint, refl, [], ◌∙◌, Some, subst, inl, inr, ◌∷◌}
+use Rattle.tftp_promises.proofs.Common.{false, true, None, Bool, EndState, ◌⊎◌, Option, true≢false, arith, length}
+use Rattle.tftp_promises.proofs.Common.{if◌then◌else◌, is_sender, Mode, ◌==◌, cases_Bool, ◌≤◌, not, ◌<◌, ◌+◌, Ok}
+use Rattle.tftp_promises.proofs.Common.{IsBlockSize, Outcome, Action, Ack, Role, Respond, datagram_action, Known, ◌*◌}
+use Rattle.tftp_promises.proofs.Common.{Terms, ◌&&◌, Error, Data, has_error_opcode, Result, Store, Phase, Packet, Err}
+use Rattle.tftp_promises.proofs.Common.{RawOption, nat_lt, Asked, terms_of, size, DEFAULT_BLOCK, Refusal, ◌^◌}
+use Rattle.tftp_promises.proofs.Common.{agreed_options, writer_action, WrongPeer, packet_action, Ignore, is_wrong_peer}
+use Rattle.tftp_promises.proofs.Common.{garbled_response, is_none, Refuse, Waiting, MAX_BLOCK, answer, agreement}
+use Rattle.tftp_promises.proofs.Common.{accept_action, reader_action, begin_with_action, nat_le, next_action}
+use Rattle.tftp_promises.proofs.Common.{illegal_action, is_readable, data_action, same_address, ltb-true, Limits}
+use Rattle.tftp_promises.proofs.Common.{asked_options, IfSome, default_terms, no_answer}
 use Rattle.std.proofs.lemmas.Bool.{ltb-false}
+use Rattle.tftp_ends.specs.declared.action.Response.TheVariants.{ResendReply}
+use Rattle.tftp_negotiate.specs.declared.refusal.Refusal.TheVariants.{Repeated, TooLarge}
+use Rattle.tftp_negotiate.specs.Options.{name_of, number_of}
+use Rattle.tftp_negotiate.specs.Agreement.{taken, taken_option}
+use Rattle.tftp_negotiate.specs.Asked.{IsFor}
+use Rattle.tftp_negotiate.specs.Negotiation.{each_judged, kept_before, repeats}
+use Rattle.tftp_negotiate.specs.declared.name.Name.{Name}
+use Rattle.tftp_negotiate.proofs.LawsLemmas.{ends_agree}
+use Rattle.tftp_ends.specs.Opening.{asked_size}
 use Rattle.tftp_negotiate.specs.declared.refusal.Refusal.TheVariants as refusals
-use Rattle.tftp_ends.specs.declared.endpoint.Endpoint.{Endpoint}
 use Rattle.tftp_ends.specs.declared.error_reply.ErrorReply.TheVariants as replies
 use Rattle.tftp_ends.specs.declared.outcome.Outcome.TheVariants as outcomes
-use Rattle.tftp_ends.specs.Sender.{peer_error}
-use Rattle.tftp_ends.specs.Waiting.{no_answer}
+use Rattle.tftp_negotiate.specs.declared.known.Kind.TheVariants as kinds
 use Rattle.tftp_promises.proofs.FirstRefused.{ClosesBy}
 
 module _ (o : Outcome) where
@@ -75,29 +83,16 @@ module _ (o : Outcome) where
         }
       ]
 
-  never_both : {P : Type 0} (b : Bool) → (b && false) ≡ true → P
-  never_both true e = absurd (true≢false (sym e))
-  never_both false e = absurd (true≢false (sym e))
-
   -- a packet is not garbled
   pub of_packet : (role : Role) (asked : Asked) (limit : ℕ) (to from : Endpoint) (bytes : List ℕ) (p : Packet)
       (decoded : Option Packet) → decoded ≡ Some p → ClosesAt role asked limit to from bytes decoded →
       ClosesBy o (waiting_as role asked limit from (Some p))
-  of_packet role asked limit to from bytes p decoded is h =
-      elim (subst (λ (d : Option Packet). ((has_error_opcode bytes && is_none d) ≡ true)
-      ⊎ ClosesBy o (waiting_as role asked limit from d)) is h.by) [
-        | inl garbled ↦ never_both (has_error_opcode bytes) garbled
-        | inr closes ↦ closes
-      ]
+  of_packet role asked limit to from bytes p decoded is h = search rules
 
   -- an ERROR closes it as what it is
   pub error_closes : (role : Role) (asked : Asked) (limit : ℕ) (from : Endpoint) (code : ℕ) (text : List ℕ) →
       ClosesBy o (waiting_as role asked limit from (Some (Error code text))) → outcomes.PeerError code ≡ o
-  error_closes role asked limit from code text h =
-      elim (closes_if (is_sender role.side) (peer_error code) (peer_error code) h) [
-        | inl writer ↦ writer.1
-        | inr reader ↦ reader.1
-      ]
+  error_closes role asked limit from code text h = search rules
 
   -- ---- a block
   next_never : {P : Type 0} (mode : Mode) (terms : Terms) (number : ℕ) (piece : List ℕ) →
@@ -140,37 +135,108 @@ module _ (o : Outcome) where
         | inr other ↦ absurd (true≢false (sym fits ∙ other.0))
       ]
 
-  -- ---- the blocks of a file
-  pub begin_closes : (count : ℕ) (terms : Terms) → ClosesBy o (begin_action count terms) →
-      (outcomes.TooLarge ≡ o) × (65535 * terms.size ≤ count)
-  begin_closes count terms h =
-      elim (closes_if (nat_lt count (65535 * terms.size)) (Send terms 1)
-      (Respond (Refuse None replies.FileTooLarge outcomes.TooLarge)) h) [
-        | inl begins ↦ absurd begins.1
-        | inr long ↦ (long.1, ltb-false count (65535 * terms.size) long.0)
-      ]
-
   pub ack_closes : (mode : Mode) (asked : Asked) (limit count : ℕ) (from : Endpoint) (number : ℕ) → (number == 0) ≡ true →
       ClosesBy o (writer_action mode asked limit count from (Some (Ack number))) →
       (outcomes.TooLarge ≡ o) × (65535 * DEFAULT_BLOCK ≤ count)
-  ack_closes mode asked limit count from number zero h =
-      elim (closes_if (number == 0) (begin_action count (default_terms from)) no_answer h) [
-        | inl first ↦ begin_closes count (default_terms from) first.1
-        | inr other ↦ absurd (true≢false (sym zero ∙ other.0))
-      ]
+  ack_closes mode asked limit count from number zero h = search rules
 
   -- ---- an OACK whose options it accepts, or whose length is more than it accepts
   pub accept_closes : (from : Endpoint) (result : Result (List Known) Refusal) (known : List Known) →
       (result ≡ Ok known) ⊎ (result ≡ Err refusals.TooLarge) → ClosesBy o (accept_action from result) →
       (outcomes.TooLarge ≡ o) × (result ≡ Err refusals.TooLarge)
-  accept_closes from result known (inl same) h =
-      absurd (subst (λ (r : Result (List Known) Refusal). ClosesBy o (accept_action from r)) same h)
-  accept_closes from result known (inr large) h =
-      (subst (λ (r : Result (List Known) Refusal). ClosesBy o (accept_action from r)) large h, large)
+  accept_closes from result known h3 h = search rules
 
   pub begin_with_closes : (from : Endpoint) (count : ℕ) (result : Result (List Known) Refusal) (known : List Known) →
       result ≡ Ok known → ClosesBy o (begin_with_action from count result) →
       (outcomes.TooLarge ≡ o) × (65535 * size known ≤ count)
-  begin_with_closes from count result known same h =
-      begin_closes count (agreed_terms from known)
-      (subst (λ (r : Result (List Known) Refusal). ClosesBy o (begin_with_action from count r)) same h)
+  begin_with_closes from count result known same h = search rules
+
+-- A client accepts the options that a server answers to its request, unless the file is longer than it accepts.
+-- For the law a_client_ends_for_a_reason.
+
+-- ---- a lower limit refuses a longer file, and nothing else
+module _ (asked : Asked) (mode : Mode) (limit more : ℕ) where
+  -- the same, or refused as too large
+  abbrev SameOr : {A : Type 0} → A → Result A Refusal → Type 0
+  SameOr v result = (result ≡ Ok v) ⊎ (result ≡ Err TooLarge)
+
+  by_name : (name : Option Name) (value : Option ℕ) (v : Option Known) →
+      taken asked kinds.Read mode more name value ≡ Ok v → SameOr v (taken asked kinds.Read mode limit name value)
+  by_name name value v e = search rules
+
+  by_option : (o : RawOption) (v : Option Known) → taken_option asked kinds.Read mode more o ≡ Ok v →
+      SameOr v (taken_option asked kinds.Read mode limit o)
+  unfolding taken_option
+  by_option o v e = by_name (name_of o.name) (number_of o.value) v e
+
+  both : (one : Result (Option Known) Refusal) (others : Result (List Known) Refusal) (ks : List Known) →
+      kept_before one others ≡ Ok ks →
+      (v : Option Known) × (rest : List Known) × (one ≡ Ok v) × (others ≡ Ok rest) × (kept_before (Ok v) (Ok rest) ≡ Ok ks)
+  both one others ks e = search rules
+
+  joined : (v : Option Known) (rest ks : List Known) (one : Result (Option Known) Refusal)
+      (others : Result (List Known) Refusal) → kept_before (Ok v) (Ok rest) ≡ Ok ks → SameOr v one → SameOr rest others →
+      SameOr ks (kept_before one others)
+  joined v rest ks one others all h6 h7 = search rules
+
+  each : (options : List RawOption) (ks : List Known) → each_judged (taken_option asked kinds.Read mode more) options ≡ Ok ks →
+      SameOr ks (each_judged (taken_option asked kinds.Read mode limit) options)
+  each [] ks e = inl e
+  each (o ∷ options) ks e =
+      let parts =
+      both (taken_option asked kinds.Read mode more o) (each_judged (taken_option asked kinds.Read mode more) options) ks
+      e in
+      joined parts.0 parts.1 ks (taken_option asked kinds.Read mode limit o)
+      (each_judged (taken_option asked kinds.Read mode limit) options) parts.4 (by_option o parts.0 parts.2)
+      (each options parts.1 parts.3)
+
+  unless_repeated : (b : Bool) (one other : Result (List Known) Refusal) (ks : List Known) →
+      (one ≡ Ok ks → SameOr ks other) → (if b then Err Repeated else one) ≡ Ok ks →
+      SameOr ks (if b then Err Repeated else other)
+  unless_repeated b one other ks to e = search rules
+
+  limited : (options : List RawOption) (ks : List Known) → agreement asked kinds.Read mode options more ≡ Ok ks →
+      SameOr ks (agreement asked kinds.Read mode options limit)
+  limited options ks e =
+      unless_repeated (repeats options) (each_judged (taken_option asked kinds.Read mode more) options)
+      (each_judged (taken_option asked kinds.Read mode limit) options) ks (each options ks) e
+
+-- ---- of a read
+pub read_taken : (asked : Asked) (mode : Mode) (measured limit : ℕ) (limits : Limits) (known : List Known) →
+    IsFor asked kinds.Read mode 0 → measured < 2 ^ 64 → IsBlockSize limits.max_block →
+    answer (asked_options asked mode) kinds.Read mode measured limits ≡ Ok known →
+    (agreement asked kinds.Read mode (agreed_options known) limit ≡ Ok known)
+    ⊎ ((limit < measured) × (agreement asked kinds.Read mode (agreed_options known) limit ≡ Err TooLarge))
+read_taken asked mode measured limit limits known for fits max e = elim (cases_Bool (nat_lt limit measured)) [
+  | inl longer ↦
+      let all =
+      ends_agree asked kinds.Read mode 0 measured measured limits known for
+      (record { client_fits = omega arith; length_fits = fits; within = λ _. omega arith }) max e in
+      elim (limited asked mode limit measured (agreed_options known) known all) [
+        | inl same ↦ inl same
+        | inr large ↦ inr (ltb-true limit measured longer, large)
+      ]
+  | inr within ↦
+      let few : measured ≤ limit = ltb-false limit measured within in
+      inl
+      (ends_agree asked kinds.Read mode 0 measured limit limits known for
+      (record { client_fits = omega arith; length_fits = fits; within = λ _. few }) max e)
+]
+
+-- ---- of a write
+block_in : (o : Option ℕ) → IfSome o IsBlockSize → asked_size o ≤ MAX_BLOCK
+block_in None within = omega arith
+block_in (Some n) within = within.1
+
+pub write_taken : (asked : Asked) (mode : Mode) (length limit : ℕ) (limits : Limits) (known : List Known) →
+    IsFor asked kinds.Write mode length → length < 65535 * asked_size asked.blksize → IsBlockSize limits.max_block →
+    answer (asked_options asked mode) kinds.Write mode 0 limits ≡ Ok known →
+    agreement asked kinds.Write mode (agreed_options known) limit ≡ Ok known
+write_taken asked mode length limit limits known for fits max e =
+    let low = block_in asked.blksize for.askable.blksize in
+    ends_agree asked kinds.Write mode length 0 limit limits known for
+    (record {
+      client_fits = omega (arith, low, fits);
+      length_fits = omega arith;
+      within = λ read. absurd (let f : kinds.Write ≡ kinds.Read = read in cc);
+    }) max e

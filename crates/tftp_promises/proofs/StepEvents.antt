@@ -1,32 +1,26 @@
 -- What one step of a program notes: a datagram that it receives is the oldest of its events.
-use Rattle.tftp_promises.proofs.Common.{◌≡◌, ℕ, List, [], ◌∷◌, ◌++◌, Option, Some, None, refl, ap, ◌∙◌, AllByRecursion}
-use Rattle.tftp_promises.proofs.Common.{SinkMeaning, SourceMeaning, Files, Reply, timeout_turn, Endpoint, StoreMeaning}
-use Rattle.tftp_promises.proofs.Common.{SocketEvent, answered, Received, Sent, Watched, Elapsed, Printed, Quiet, Slept}
-use Rattle.tftp_promises.proofs.Common.{Woke, LoopState, PortState, LoopStep, PortStep, At_port, Request_answered}
-use Rattle.tftp_promises.proofs.Common.{State, HandlesReceived, MayElapse, wait_at, Answers, Loses, Stays, Elapses}
-use Rattle.tftp_promises.proofs.Common.{ClientDoes, Receives_one, Reads_clock, Waits_until, Times_out, File_works}
-use Rattle.tftp_promises.proofs.Common.{Prints_line}
+use Rattle.tftp_promises.proofs.Common.{List, ℕ, ◌≡◌, sym, Endpoint, refl, [], ◌∙◌, ap, SourceMeaning, Some, subst, inl}
+use Rattle.tftp_promises.proofs.Common.{StoreMeaning, inr, ◌∷◌, SinkMeaning, None, ◌++◌, Contains, Files, SocketEvent}
+use Rattle.tftp_promises.proofs.Common.{Option, arith, LoopState, length, LoopStep, Sent, Received, State, suc, Reply}
+use Rattle.tftp_promises.proofs.Common.{Elapsed, timeout_turn, Receives_one, append_cancel_right, ClientDoes, Watched}
+use Rattle.tftp_promises.proofs.Common.{Printed, Quiet, PortStep, Contains-append_cases, append_assoc, answered}
+use Rattle.tftp_promises.proofs.Common.{Request_answered, Answers, common_steps, state_is, PortState, Waits_until}
+use Rattle.tftp_promises.proofs.Common.{Times_out, Contains-append_right, HandlesReceived, Loses, File_works}
+use Rattle.tftp_promises.proofs.Common.{Prints_line, Reads_clock, Elapses, AllByRecursion, Slept, MayElapse, Stays}
+use Rattle.tftp_promises.proofs.Common.{trace_is, Woke, wait_at}
+use Rattle.std.proofs.lemmas.List.Elements.{All-from_recursion, All-contains}
+use Rattle.tftp_loop.specs.Steps.{At_port, A_datagram, A_timeout, Work, Waited, Request_lost, Store_set, answering_port}
 use Rattle.tftp_sockets.specs.Trace.{replied}
-use Rattle.tftp_loop.specs.Steps.{A_datagram, A_timeout, Work, Waited, Request_lost, Store_set, answering_port}
-use Rattle.tftp_loop.proofs.NewStates.{state_is, trace_is}
 
 -- no datagram received
 abbrev pub IsOther : SocketEvent → Type 0
 IsOther (Received port from bytes) = ⊥
-IsOther (Sent port to bytes) = Unit {0}
-IsOther (Watched watch) = Unit {0}
-IsOther (Elapsed port time) = Unit {0}
-IsOther (Printed line) = Unit {0}
-IsOther (Quiet event) = Unit {0}
+IsOther event = Unit {0}
 
 -- a wait, or a receive without a datagram
 abbrev pub IsQuiet : SocketEvent → Type 0
-IsQuiet (Received port from bytes) = ⊥
-IsQuiet (Sent port to bytes) = ⊥
-IsQuiet (Watched watch) = ⊥
-IsQuiet (Elapsed port time) = ⊥
-IsQuiet (Printed line) = ⊥
 IsQuiet (Quiet event) = Unit {0}
+IsQuiet event = ⊥
 
 -- of these events, the newest first, none but the oldest is a datagram received
 abbrev pub OldestOnly : SocketEvent → List SocketEvent → Type 0
@@ -122,3 +116,68 @@ module _ {G K : Type 0} {inputs : SourceMeaning G} {outputs : SinkMeaning K} whe
   client_adds (Times_out elapses) = after_wait [] tt (elapse_adds elapses)
   client_adds (File_works works) = Rests refl
   client_adds (Prints_line line) = Acts (Printed line) [] [] tt tt refl
+
+-- Traces of which only the older events are seen, so that the last step is seen in part.
+
+-- the last step added `ahead ++ x ∷ rest`, of which what is seen of the trace has `x ∷ rest`
+pub data Split (old_events events old_noted noted seen : List SocketEvent) : Type 0 where
+  split : (ahead : List SocketEvent) (x : SocketEvent) (rest : List SocketEvent) → AllByRecursion IsOther ahead → OldestOnly x rest →
+      events ≡ (ahead ++ x ∷ rest) ++ old_events → noted ≡ (ahead ++ x ∷ rest) ++ old_noted →
+      seen ≡ x ∷ (rest ++ old_noted) → Split old_events events old_noted noted seen
+
+pub no_more : {X : Type 0} {P : Type 0} (x : X) (xs : List X) → ◌≡◌ {A = List X} [] (x ∷ xs) → P
+no_more x xs e = absurd (let n : 0 ≡ suc (length xs) = ap length e in omega (arith, n))
+
+push_other : (ahead : List SocketEvent) (x : SocketEvent) → AllByRecursion IsOther ahead → IsOther x →
+    AllByRecursion IsOther (ahead ++ x ∷ [])
+push_other [] x others o = (o, tt)
+push_other (y ∷ ahead) x others o = (others.0, push_other ahead x others.1 o)
+
+-- one more event is no longer seen
+pub step_back : {old_events events old_noted noted : List SocketEvent} (ahead : List SocketEvent) (x y : SocketEvent)
+    (rest ev : List SocketEvent) → AllByRecursion IsOther ahead → OldestOnly x (y ∷ rest) →
+    events ≡ (ahead ++ x ∷ (y ∷ rest)) ++ old_events → noted ≡ (ahead ++ x ∷ (y ∷ rest)) ++ old_noted →
+    ev ≡ (y ∷ rest) ++ old_noted → Split old_events events old_noted noted ev
+step_back {old_events} {events} {old_noted} {noted} ahead x y rest ev others own is noted_is seen =
+    let moved = append_assoc ahead (x ∷ []) (y ∷ rest) in
+    split (ahead ++ x ∷ []) y rest (push_other ahead x others own.0) own.1
+    (is ∙ ap (λ (es : List SocketEvent). es ++ old_events) (sym moved)) (noted_is ∙ ap (λ (es : List SocketEvent). es ++ old_noted)
+    (sym moved)) seen
+
+-- what is seen was noted
+pub split_in : {old_events events old_noted noted seen : List SocketEvent} (e : SocketEvent) →
+    Split old_events events old_noted noted seen → Contains seen e → Contains noted e
+split_in {old_noted = old_noted} e (split ahead x rest others own is noted_is seen_is) i =
+    subst (λ (es : List SocketEvent). Contains es e) (sym (noted_is ∙ append_assoc ahead (x ∷ rest) old_noted))
+    (Contains-append_right ahead ((x ∷ rest) ++ old_noted) e (subst (λ (es : List SocketEvent). Contains es e) seen_is i))
+
+-- a datagram received in these events is the oldest of them
+pub oldest_in : (ahead : List SocketEvent) (x : SocketEvent) (port : ℕ) (from : Endpoint) (bytes : List ℕ) →
+    AllByRecursion IsOther ahead → Contains (ahead ++ x ∷ []) (Received port from bytes) → x ≡ Received port from bytes
+oldest_in ahead x port from bytes others i = grind (arith, common_steps)
+
+-- what is no wait is among the other events
+pub past_waits : (waits events : List SocketEvent) (e : SocketEvent) → AllByRecursion IsQuiet waits → (IsQuiet e → ⊥) →
+    Contains (waits ++ events) e → Contains events e
+past_waits waits events e quiet other i = elim (Contains-append_cases waits events e i) [
+  | inl early ↦ absurd (other (All-contains IsQuiet waits e (All-from_recursion IsQuiet waits quiet) early))
+  | inr late ↦ late
+]
+
+pub before_waits : (events waits : List SocketEvent) (e : SocketEvent) → AllByRecursion IsQuiet waits → (IsQuiet e → ⊥) →
+    Contains (events ++ waits) e → Contains events e
+before_waits events waits e quiet other i = grind (arith, common_steps)
+
+-- what a trace has after a step, past where it began
+pub past : (added old_noted before old_events events noted : List SocketEvent) → events ≡ added ++ old_events →
+    old_events ≡ old_noted ++ before → events ≡ noted ++ before → noted ≡ added ++ old_noted
+past added old_noted before old_events events noted is old_is noted_is =
+    grind (arith, common_steps, append_cancel_right)
+
+-- nothing is noted by a trace that is where it began
+pub at_first : (before events noted : List SocketEvent) → events ≡ before → events ≡ noted ++ before → noted ≡ []
+at_first before events noted is noted_is = append_cancel_right noted [] before (sym noted_is ∙ is)
+
+pub ends_with : {P : Type 0} (xs : List SocketEvent) (x : SocketEvent) → [] ≡ xs ++ x ∷ [] → P
+ends_with [] x e = no_more x [] e
+ends_with (y ∷ xs) x e = no_more y (xs ++ x ∷ []) e

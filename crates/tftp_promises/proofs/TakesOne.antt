@@ -1,39 +1,33 @@
 -- A client takes the answers of one port only: at the first datagram of the server's address that it handles and that is
 -- no ERROR it has a peer, or closes.
-use Rattle.tftp_promises.proofs.Common.{◌≡◌, ℕ, Bool, true, false, List, [], Option, Some, None, refl, sym, ap, ◌∙◌}
-use Rattle.tftp_promises.proofs.Common.{subst, inl, inr, ◌≢◌, ◌⊎◌, ◌&&◌, ◌==◌, if◌then◌else◌, is_none, nat_le, nat_lt}
-use Rattle.tftp_promises.proofs.Common.{IsSome, Contains, cases_Bool, eqb-true, true≢false, has_error_opcode, Mode}
-use Rattle.tftp_promises.proofs.Common.{Read, Write, Data, Ack, Error, Oack, Asked, Known, Refusal, agreement}
-use Rattle.tftp_promises.proofs.Common.{SinkMeaning, SourceMeaning, StoreFault, Files, Source, Sink, Action, Respond}
-use Rattle.tftp_promises.proofs.Common.{Send, Store, Response, Ignore, WrongPeer, ResendReply, Retransmit, Wait, Close}
-use Rattle.tftp_promises.proofs.Common.{Refuse, Accept, Complete, Phase, Waiting, Sending, Receiving, Dallying, Closed}
-use Rattle.tftp_promises.proofs.Common.{Terms, Decodes, datagram_action, garbled_response, is_wrong_peer, packet_action}
-use Rattle.tftp_promises.proofs.Common.{same_address, EndState, is_sender, outcome_of, terms_of, data_action}
-use Rattle.tftp_promises.proofs.Common.{next_action, illegal_action, Acts, DatagramStep, Done, GoesOn, Turn, after_turn}
-use Rattle.tftp_promises.proofs.Common.{block_length, committed_turn, data_bytes, holding, response_turn}
-use Rattle.tftp_promises.proofs.Common.{result_count_is, sent_turn, is_readable, accept_action, agreed_terms}
-use Rattle.tftp_promises.proofs.Common.{begin_action, begin_with_action, default_terms, reader_action, writer_action}
-use Rattle.tftp_promises.proofs.Common.{HandlesReceived, IsOpen, MayElapse, State, received, Watch, Answers, Loses}
-use Rattle.tftp_promises.proofs.Common.{Stays, Elapses, Endpoint, peer_of, if_acts, ClientDoes, ClientRun, Starts}
-use Rattle.tftp_promises.proofs.Common.{Goes_on, Receives_one, Reads_clock, Waits_until, Times_out, File_works}
-use Rattle.tftp_promises.proofs.Common.{Prints_line, DoesOwn, IsOtherAnswer, TakesOwn, IsError, ClientProgram}
-use Rattle.std.specs.Prelude.{◌*◌, not, length}
-use Rattle.std.specs.Prelude.{Result, Ok, Err}
+use Rattle.tftp_promises.proofs.Common.{List, ℕ, ◌≡◌, rules, sym, Endpoint, refl, [], ◌∙◌, ap, SourceMeaning, Some}
+use Rattle.tftp_promises.proofs.Common.{subst, inl, inr, SinkMeaning, false, true, None, Bool, EndState, ◌⊎◌, Contains}
+use Rattle.tftp_promises.proofs.Common.{Files, Option, true≢false, ◌≢◌, length, outcome_of, if◌then◌else◌, is_sender}
+use Rattle.tftp_promises.proofs.Common.{Turn, State, Mode, Sink, Source, WirePacket, ◌==◌, cases_Bool, not, after_turn}
+use Rattle.tftp_promises.proofs.Common.{Ok, DatagramStep, Receives_one, ClientDoes, peer_of, Action, Ack, Answers, Acts}
+use Rattle.tftp_promises.proofs.Common.{Respond, datagram_action, TakesOwn, Known, ◌*◌, Waits_until, Goes_on, ClientRun}
+use Rattle.tftp_promises.proofs.Common.{Starts, Times_out, Terms, HandlesReceived, Loses, ◌&&◌, File_works, Prints_line}
+use Rattle.tftp_promises.proofs.Common.{Reads_clock, Error, Data, has_error_opcode, Result, ClientProgram, Elapses}
+use Rattle.tftp_promises.proofs.Common.{Store, Phase, eqb-true, Oack, Err, nat_lt, response_turn, Asked, IsError, Send}
+use Rattle.tftp_promises.proofs.Common.{terms_of, MayElapse, Stays, block_length, Refusal, if_acts, data_bytes, IsSome}
+use Rattle.tftp_promises.proofs.Common.{writer_action, DoesOwn, received, Accept, WrongPeer, packet_action, Ignore}
+use Rattle.tftp_promises.proofs.Common.{is_wrong_peer, garbled_response, is_none, Response, Refuse, Waiting, IsOpen}
+use Rattle.tftp_promises.proofs.Common.{StoreFault, agreed_terms, agreement, accept_action, reader_action}
+use Rattle.tftp_promises.proofs.Common.{begin_with_action, nat_le, Done, committed_turn, Decodes, Sending, Close}
+use Rattle.tftp_promises.proofs.Common.{next_action, illegal_action, is_readable, data_action, same_address, Watch}
+use Rattle.tftp_promises.proofs.Common.{IsOtherAnswer, sent_turn, result_count_is, begin_action, Closed, Receiving}
+use Rattle.tftp_promises.proofs.Common.{Dallying, default_terms, no_answer, MayWait, holding, IsReadBy, same_ip, GoesOn}
 use Rattle.std.specs.Cmp.Lexicographic.{same_text}
-use Rattle.tftp_wire.specs.declared.packet.Packet.{Packet as WirePacket}
+use Rattle.tftp_ends.specs.Action.{waiting_action}
+use Rattle.tftp_ends.specs.Waiting.{refusal_action}
+use Rattle.tftp_rules.specs.Machine.{is_same_ip}
+use Rattle.tftp_rules.proofs.PhaseMoves.{both_true}
 use Rattle.tftp_negotiate.specs.declared.known.Kind.TheVariants as kinds
-use Rattle.tftp_negotiate.specs.declared.refusal.Refusal.TheVariants.{Repeated, TooLarge, NotAsked, BadValue}
 use Rattle.tftp_ends.specs.declared.error_reply.ErrorReply.TheVariants as replies
 use Rattle.tftp_ends.specs.declared.outcome.Outcome.TheVariants as outcomes
-use Rattle.tftp_ends.specs.Action.{waiting_action}
-use Rattle.tftp_ends.specs.Waiting.{no_answer, refusal_action}
-use Rattle.tftp_client.specs.Converses.{IsReadBy, MayWait}
-use Rattle.tftp_rules.specs.Machine.{is_same_ip}
-use Rattle.tftp_rules.proofs.Endpoints.{same_ip}
-use Rattle.tftp_rules.proofs.PhaseMoves.{both_true}
 use Rattle.tftp_promises.specs.Others.{ClientsTakeOne}
 use Rattle.tftp_promises.proofs.ClientTraces.{asks_there}
-use Rattle.tftp_promises.proofs.WrongPeers.{datagram_stays, timeout_stays}
+use Rattle.tftp_promises.proofs.ClosedEnds.{datagram_stays, timeout_stays}
 
 -- ---- an end that has a peer once it is open
 abbrev Settled : EndState → Type 0
@@ -41,20 +35,14 @@ Settled e = IsOpen e → peer_of e.position.phase ≢ None
 
 -- the actions after which an end is one
 abbrev SettlesBy : Response → Type 0
-SettlesBy Ignore = ⊥
-SettlesBy WrongPeer = ⊥
-SettlesBy ResendReply = ⊥
-SettlesBy Retransmit = ⊥
-SettlesBy Wait = ⊥
 SettlesBy (Close outcome) = Unit {0}
 SettlesBy (Refuse terms reply outcome) = Unit {0}
 SettlesBy (Accept terms) = Unit {0}
-SettlesBy Complete = ⊥
+SettlesBy response = ⊥
 
 abbrev Settles : Action → Type 0
 Settles (Respond response) = SettlesBy response
-Settles (Send terms number) = Unit {0}
-Settles (Store terms number) = Unit {0}
+Settles action = Unit {0}
 
 -- ---- how a waiting client handles an answer
 begin_settles : (long : ℕ) (terms : Terms) → Settles (begin_action long terms)
@@ -63,10 +51,7 @@ begin_settles long terms =
     (Respond (Refuse None replies.FileTooLarge outcomes.TooLarge)) (λ b. tt) (λ b. tt)
 
 refusal_settles : (refusal : Refusal) → Settles (refusal_action refusal)
-refusal_settles Repeated = tt
-refusal_settles TooLarge = tt
-refusal_settles NotAsked = tt
-refusal_settles BadValue = tt
+refusal_settles refusal = search rules
 
 accept_settles : (from : Endpoint) (result : Result (List Known) Refusal) → Settles (accept_action from result)
 accept_settles from (Ok agreed) = tt
@@ -88,42 +73,31 @@ next_settles mode held terms number bytes =
 
 -- no ERROR
 abbrev IsNoError : Option WirePacket → Type 0
-IsNoError None = Unit {0}
-IsNoError (Some (Read request)) = Unit {0}
-IsNoError (Some (Write request)) = Unit {0}
-IsNoError (Some (Data number bytes)) = Unit {0}
-IsNoError (Some (Ack number)) = Unit {0}
 IsNoError (Some (Error code text)) = ⊥
-IsNoError (Some (Oack options)) = Unit {0}
+IsNoError decoded = Unit {0}
 
 reader_settles : (mode : Mode) (asked : Asked) (limit : ℕ) (from : Endpoint) (decoded : Option WirePacket) →
     IsNoError decoded → Settles (reader_action mode asked limit from decoded)
-reader_settles mode asked limit from None answer = tt
-reader_settles mode asked limit from (Some (Read request)) answer = tt
-reader_settles mode asked limit from (Some (Write request)) answer = tt
 reader_settles mode asked limit from (Some (Data number bytes)) answer =
     if_acts Settles (number == 1 && nat_le (length bytes) 512)
     (data_action mode [] (default_terms from) 0 number bytes) no_answer
     (λ b. subst (λ (n : ℕ). Settles (data_action mode [] (default_terms from) 0 n bytes))
     (sym (eqb-true number 1 (both_true (number == 1) (nat_le (length bytes) 512) b).0))
     (next_settles mode [] (default_terms from) 1 bytes)) (λ b. tt)
-reader_settles mode asked limit from (Some (Ack number)) answer = tt
 reader_settles mode asked limit from (Some (Error code text)) answer = absurd answer
 reader_settles mode asked limit from (Some (Oack options)) answer =
     accept_settles from (agreement asked kinds.Read mode options limit)
+reader_settles mode asked limit from decoded answer = tt
 
 writer_settles : (mode : Mode) (asked : Asked) (limit long : ℕ) (from : Endpoint) (decoded : Option WirePacket) →
     IsNoError decoded → Settles (writer_action mode asked limit long from decoded)
-writer_settles mode asked limit long from None answer = tt
-writer_settles mode asked limit long from (Some (Read request)) answer = tt
-writer_settles mode asked limit long from (Some (Write request)) answer = tt
-writer_settles mode asked limit long from (Some (Data number bytes)) answer = tt
 writer_settles mode asked limit long from (Some (Ack number)) answer =
     if_acts Settles (number == 0) (begin_action long (default_terms from)) no_answer
     (λ b. begin_settles long (default_terms from)) (λ b. tt)
 writer_settles mode asked limit long from (Some (Error code text)) answer = absurd answer
 writer_settles mode asked limit long from (Some (Oack options)) answer =
     begin_with_settles from long (agreement asked kinds.Write mode options limit)
+writer_settles mode asked limit long from decoded answer = tt
 
 waiting_settles : (e : EndState) (from : Endpoint) (asked : Asked) (limit : ℕ) (decoded : Option WirePacket) →
     IsNoError decoded → Settles (waiting_action e from decoded (Waiting asked limit))
@@ -165,6 +139,11 @@ action_settles e from bytes decoded answer near (Dallying terms number dally) st
 action_settles e from bytes decoded answer near (Closed terms number complete outcome) still none = absurd (still refl)
 
 -- ---- the turns
+-- the action gives what a file has, or stores in it
+abbrev pub MovesFile : Action → Type 0
+MovesFile (Respond response) = ⊥
+MovesFile action = Unit {0}
+
 some_peer : (peer : Endpoint) → Some peer ≢ None
 some_peer peer e = cc
 
@@ -173,70 +152,61 @@ module _ {S K : Type 0} (sources : SourceMeaning S) (sinks : SinkMeaning K) (fro
   SettledBy turn = Settled (after_turn e turn)
 
   response_settles : (response : Response) → SettlesBy response → SettledBy (response_turn response from e)
-  response_settles Ignore k = absurd k
-  response_settles WrongPeer k = absurd k
-  response_settles ResendReply k = absurd k
-  response_settles Retransmit k = absurd k
-  response_settles Wait k = absurd k
   response_settles (Close outcome) k = λ still none. still refl
   response_settles (Refuse terms reply outcome) k = λ still none. still refl
   response_settles (Accept terms) k = λ still none. some_peer terms.peer none
-  response_settles Complete k = absurd k
+  response_settles response k = absurd k
 
-  committed_settles : (terms : Terms) (number : ℕ) (after : List ℕ) (answer : Result Done StoreFault) →
-      SettledBy (committed_turn terms number from (holding after e) answer)
-  committed_settles terms number after (Ok done) = λ still none. some_peer terms.peer none
-  committed_settles terms number after (Err fault) = λ still none. still refl
+  -- one that sends or stores has a peer after it
+  abbrev HasPeer : Turn → Type 0
+  HasPeer turn = peer_of turn.position.phase ≢ None
 
-  goes_settle : (terms : Terms) (number : ℕ) (last : Bool) (after : List ℕ) (sink : K) (answer : Result Done StoreFault)
-      (turn : Turn) (sink' : K) → GoesOn sinks terms number from e last after sink answer turn sink' → SettledBy turn
-  goes_settle terms number last after sink (Err fault) turn sink' h =
-      subst SettledBy (sym h.0) (response_settles (Refuse (Some terms) replies.DiskFull outcomes.StoreFault) tt)
-  goes_settle terms number true after sink (Ok done) turn sink' h =
-      subst SettledBy (sym h.answers) (committed_settles terms number after h.answer)
-  goes_settle terms number false after sink (Ok done) turn sink' h =
-      subst SettledBy (sym h.0) (λ still none. some_peer terms.peer none)
+  committed_peer : (terms : Terms) (number : ℕ) (after : List ℕ) (answer : Result Done StoreFault) →
+      HasPeer (committed_turn terms number from (holding after e) answer)
+  committed_peer terms number after (Ok done) = some_peer terms.peer
+  committed_peer terms number after (Err fault) = some_peer terms.peer
+
+  goes_peer : (terms : Terms) (number : ℕ) (last : Bool) (after : List ℕ) (sink : K) (answer : Result Done StoreFault)
+      (turn : Turn) (sink' : K) → GoesOn sinks terms number from e last after sink answer turn sink' → HasPeer turn
+  goes_peer terms number last after sink (Err fault) turn sink' h = subst HasPeer (sym h.0) (some_peer terms.peer)
+  goes_peer terms number true after sink (Ok done) turn sink' h =
+      subst HasPeer (sym h.answers) (committed_peer terms number after h.answer)
+  goes_peer terms number false after sink (Ok done) turn sink' h = subst HasPeer (sym h.0) (some_peer terms.peer)
+
+  pub acts_peer : (action : Action) (bytes : List ℕ) (files : Files S K) (turn : Turn) (files' : Files S K) →
+      Acts sources sinks action from bytes e files turn files' → MovesFile action → HasPeer turn
+  acts_peer (Respond response) bytes files turn files' acts k = absurd k
+  acts_peer (Send terms number) bytes (Source source) turn (Source source') acts k =
+      subst HasPeer (sym acts.answers)
+      (if_acts HasPeer (result_count_is (block_length e.role.length terms.size number) acts.answer)
+      (sent_turn (Sending terms number) from (data_bytes number acts.piece) e) _ (λ b. some_peer terms.peer)
+      (λ b. some_peer terms.peer))
+  acts_peer (Send terms number) bytes (Source source) turn (Sink sink') acts k = absurd acts
+  acts_peer (Send terms number) bytes (Sink sink) turn files' acts k = absurd acts
+  acts_peer (Store terms number) bytes (Sink sink) turn (Sink sink') acts k =
+      goes_peer terms number (nat_lt (length acts.0) terms.size) acts.2.after acts.2.mid acts.2.answer turn sink'
+      acts.2.rest
+  acts_peer (Store terms number) bytes (Sink sink) turn (Source source') acts k = absurd acts.2
+  acts_peer (Store terms number) bytes (Source source) turn files' acts k = absurd acts.2
 
   acts_settle : (action : Action) (bytes : List ℕ) (files : Files S K) (turn : Turn) (files' : Files S K) →
       Acts sources sinks action from bytes e files turn files' → Settles action → SettledBy turn
   acts_settle (Respond response) bytes files turn files' acts k =
       subst SettledBy (sym acts.0) (response_settles response k)
-  acts_settle (Send terms number) bytes (Source source) turn (Source source') acts k =
-      subst SettledBy (sym acts.answers)
-      (if_acts SettledBy (result_count_is (block_length e.role.length terms.size number) acts.answer)
-      (sent_turn (Sending terms number) from (data_bytes number acts.piece) e) _
-      (λ b. λ still none. some_peer terms.peer none)
-      (λ b. response_settles (Refuse (Some terms) replies.FileChanged outcomes.SourceFault) tt))
-  acts_settle (Send terms number) bytes (Source source) turn (Sink sink') acts k = absurd acts
-  acts_settle (Send terms number) bytes (Sink sink) turn files' acts k = absurd acts
-  acts_settle (Store terms number) bytes (Sink sink) turn (Sink sink') acts k =
-      goes_settle terms number (nat_lt (length acts.0) terms.size) acts.2.after acts.2.mid acts.2.answer turn sink'
-      acts.2.rest
-  acts_settle (Store terms number) bytes (Sink sink) turn (Source source') acts k = absurd acts.2
-  acts_settle (Store terms number) bytes (Source source) turn files' acts k = absurd acts.2
+  acts_settle action bytes files turn files' acts k = λ still none. acts_peer action bytes files turn files' acts tt none
 
   -- the end has settled, or its last datagram went where it went before
   abbrev Lands : Turn → Type 0
   Lands turn = SettledBy turn ⊎ (turn.position.last_sent_to ≡ e.position.last_sent_to)
 
   response_lands : (response : Response) → Lands (response_turn response from e)
-  response_lands Ignore = inr refl
-  response_lands WrongPeer = inr refl
-  response_lands ResendReply = inr refl
-  response_lands Retransmit = inr refl
-  response_lands Wait = inr refl
-  response_lands (Close outcome) = inr refl
-  response_lands (Refuse terms reply outcome) = inr refl
   response_lands (Accept terms) = inl (response_settles (Accept terms) tt)
-  response_lands Complete = inr refl
+  response_lands response = inr refl
 
   acts_land : (action : Action) (bytes : List ℕ) (files : Files S K) (turn : Turn) (files' : Files S K) →
       Acts sources sinks action from bytes e files turn files' → Lands turn
   acts_land (Respond response) bytes files turn files' acts = subst Lands (sym acts.0) (response_lands response)
-  acts_land (Send terms number) bytes files turn files' acts =
-      inl (acts_settle (Send terms number) bytes files turn files' acts tt)
-  acts_land (Store terms number) bytes files turn files' acts =
-      inl (acts_settle (Store terms number) bytes files turn files' acts tt)
+  acts_land action bytes files turn files' acts = inl (acts_settle action bytes files turn files' acts tt)
 
 -- ---- an end whose last datagram went to the server while it has no peer
 abbrev Asks : Endpoint → EndState → Type 0
@@ -245,13 +215,8 @@ Asks to e = IsOpen e → peer_of e.position.phase ≡ None → e.position.last_s
 -- an ERROR, or none
 error_or_not : (bytes : List ℕ) (decoded : Option WirePacket) → Decodes bytes decoded →
     IsNoError decoded ⊎ IsError bytes
-error_or_not bytes None says = inl tt
-error_or_not bytes (Some (Read request)) says = inl tt
-error_or_not bytes (Some (Write request)) says = inl tt
-error_or_not bytes (Some (Data number piece)) says = inl tt
-error_or_not bytes (Some (Ack number)) says = inl tt
 error_or_not bytes (Some (Error code text)) says = inr (code, text, says)
-error_or_not bytes (Some (Oack options)) says = inl tt
+error_or_not bytes decoded says = inl tt
 
 module _ {G K : Type 0} {inputs : SourceMeaning G} {outputs : SinkMeaning K} (to : Endpoint) where
   module _ (from : Endpoint) (bytes : List ℕ) (e : EndState) (files : Files G K) (turn : Turn) (files' : Files G K)

@@ -1,7 +1,7 @@
 -- Prefixes of texts, and a text that is padded to a length.
-use Rattle.tftp_promises.proofs.Common.{◌≡◌, ℕ, zero, suc, ◌≤◌, List, [], ◌∷◌, ◌++◌, append_assoc, append-nil, length}
-use Rattle.tftp_promises.proofs.Common.{take, drop, refl, sym, ap, ◌∙◌, arith, rules, length-append, IsPrefixOf}
-use Rattle.std.proofs.Common.{replicate}
+use Rattle.tftp_promises.proofs.Common.{List, ℕ, ◌≡◌, rules, sym, refl, [], ◌∙◌, ap, ◌∷◌, ◌++◌, arith, length, suc}
+use Rattle.tftp_promises.proofs.Common.{zero, ◌≤◌, IsPrefixOf, append_assoc, take, length-append, drop, replicate}
+use Rattle.std.proofs.Common.{append-nil}
 use Rattle.std.proofs.lemmas.List.{append_cancel_left, length-replicate, length-take}
 
 -- the text of this length that begins so, padded by this byte
@@ -18,8 +18,7 @@ begins_take (x ∷ xs) rest (suc n) l =
     let h = begins_take xs rest n (omega (arith, l)) in (h.0, ap (λ (ys : List ℕ). x ∷ ys) h.1)
 
 -- a prefix that is not longer begins the padded text
-pub begins_padded : (pad n : ℕ) (xs ys : List ℕ) → IsPrefixOf xs ys → length xs ≤ n →
-    IsPrefixOf xs (pad_to pad n ys)
+pub begins_padded : (pad n : ℕ) (xs ys : List ℕ) → IsPrefixOf xs ys → length xs ≤ n → IsPrefixOf xs (pad_to pad n ys)
 begins_padded pad n xs ys b l =
     let h = begins_take xs (b.0 ++ replicate n pad) n l in (
       h.0,

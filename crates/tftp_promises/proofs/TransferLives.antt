@@ -1,31 +1,25 @@
 -- At each time of a server's run each transfer that it holds has lived so: what it handled and sent since it opened is
 -- that of the run, and is a life of its end.
-use Rattle.tftp_promises.proofs.Common.{◌≡◌, ℕ, ◌*◌, ◌<◌, Bool, true, false, not, List, [], ◌∷◌, Option, Some, None}
-use Rattle.tftp_promises.proofs.Common.{refl, sym, ap, ◌∙◌, subst, inl, inr, arith, ◌==◌, if◌then◌else◌, true≢false}
-use Rattle.tftp_promises.proofs.Common.{cases_eq, eq-eqb, ne_eqb, Packet, SourceMeaning, Files, EndState, serving_read}
-use Rattle.tftp_promises.proofs.Common.{Turn, DatagramStep, after_turn, timeout_turn, size, IsBlockSize, Known, Mode}
-use Rattle.tftp_promises.proofs.Common.{StoreMeaning, Drafting, drafting_sink, Config, Came, Nothing, Error_reply}
-use Rattle.tftp_promises.proofs.Common.{A_transfer, Left, left_by, TransferState, ServerState, at, is_closed, with_next}
-use Rattle.tftp_promises.proofs.Common.{KeepsHeld, WorksAt, Act, Took, Lost, Timed, Life, with_reply, Run, Start, Then}
-use Rattle.tftp_promises.proofs.Common.{PortState, LoopState, PortStep, LoopStep, port_state, A_datagram}
-use Rattle.tftp_promises.proofs.Common.{A_lost_datagram, A_late_datagram, A_timeout, Work, Transfer_closed, acts_at}
-use Rattle.tftp_promises.proofs.Common.{came_if}
-use Rattle.tftp_ends.specs.declared.endpoint.Endpoint.{Endpoint}
-use Rattle.tftp_rules.specs.EndOpens.{AreGranted}
-use Rattle.tftp_server.specs.State.{is_open}
-use Rattle.tftp_server.specs.Steps.{with_end}
-use Rattle.tftp_lives.specs.Lives.{Opens, Hears, Loses, Times, newest}
-use Rattle.tftp_lives.specs.Unanswered.{Begins, MayAgree, To_serve_read, To_serve_write}
-use Rattle.tftp_loop.specs.Steps.LoopStep.{At_port, Request_answered}
-use Rattle.tftp_loop.proofs.PortEnds.{same_config}
-use Rattle.tftp_loop.proofs.Reserving.{carried_config}
-use Rattle.tftp_promises.specs.Lived.{IsLiving, first_act, port_acts}
+use Rattle.tftp_promises.proofs.Common.{List, ℕ, ◌≡◌, rules, sym, Endpoint, refl, [], ◌∙◌, ap, SourceMeaning, Some}
+use Rattle.tftp_promises.proofs.Common.{subst, inl, StoreMeaning, inr, ◌∷◌, false, true, None, Bool, EndState, Files}
+use Rattle.tftp_promises.proofs.Common.{Option, true≢false, arith, LoopState, TransferState, LoopStep, if◌then◌else◌}
+use Rattle.tftp_promises.proofs.Common.{at, Run, Turn, Mode, Then, Start, ServerState, ◌==◌, not, after_turn, ◌<◌}
+use Rattle.tftp_promises.proofs.Common.{cases_eq, timeout_turn, DatagramStep, A_transfer, eq-eqb, IsBlockSize, Act}
+use Rattle.tftp_promises.proofs.Common.{drafting_sink, Came, PortStep, with_next, state_is, PortState, left_by, Known}
+use Rattle.tftp_promises.proofs.Common.{Nothing, ◌*◌, Config, Left, Took, acts_at, port_state, Error_reply, ne_eqb}
+use Rattle.tftp_promises.proofs.Common.{Packet, At_port, A_datagram, serving_read, Lost, Timed, Drafting, with_reply}
+use Rattle.tftp_promises.proofs.Common.{is_closed, is_open, Work, came_if, A_timeout, KeepsHeld, server_is}
+use Rattle.tftp_promises.proofs.Common.{Transfer_closed, size, WorksAt, A_lost_datagram, newest, Life, Begins, IsLiving}
+use Rattle.tftp_promises.proofs.Common.{Times, first_act, Opens, with_end, AreGranted, port_acts, Hears}
+use Rattle.tftp_promises.proofs.Common.{A_late_datagram}
+use Rattle.tftp_lives.specs.Lives.{Loses}
+use Rattle.tftp_lives.specs.Unanswered.{MayAgree, To_serve_read, To_serve_write}
+use Rattle.tftp_loop.specs.Steps.LoopStep.{Request_answered}
 use Rattle.tftp_promises.proofs.Identifiers.{at-with_next_cases, at-without_cases, once-with_next, once-without}
+use Rattle.tftp_promises.proofs.Identifiers.{at-with_new_cases, once-with_new}
 use Rattle.tftp_promises.proofs.Invariant.{AreKeyedOnce}
-use Rattle.tftp_promises.proofs.NewIdentifiers.{at-with_new_cases, once-with_new}
-use Rattle.tftp_promises.proofs.PortAnswers.{Begins_to_send, Begins_to_store, IsFirst, PortAnswers, Says_error, Silent}
-use Rattle.tftp_promises.proofs.PortAnswers.{port_answers}
-use Rattle.tftp_loop.proofs.NewStates.{state_is, server_is}
+use Rattle.tftp_promises.proofs.Requested.{Begins_to_send, Begins_to_store, IsFirst, PortAnswers, Says_error, Silent}
+use Rattle.tftp_promises.proofs.Requested.{port_answers}
 
 module _ {S F D : Type 0} (stores : StoreMeaning S D) (sources : SourceMeaning F) where
   abbrev Lives : List Act → TransferState F D → Type 0
@@ -60,8 +54,7 @@ module _ {S F D : Type 0} (stores : StoreMeaning S D) (sources : SourceMeaning F
       first = h.first;
       begins = h.begins;
       life =
-          subst
-          (λ (e : EndState). Life sources (drafting_sink stores) h.first
+          subst (λ (e : EndState). Life sources (drafting_sink stores) h.first
           (with_reply (timeout_turn transfer.end).reply (Timed ∷ acts)) e) (sym is) (Times h.life still);
     }
 
@@ -94,14 +87,7 @@ module _ {S F D : Type 0} (stores : StoreMeaning S D) (sources : SourceMeaning F
   -- nothing was done, and the transfers are as they were
   stays_living : (port : ℕ) (acts : ℕ → List Act) (held held' : List (ℕ × TransferState F D)) → held' ≡ held →
       Living acts held → Living (at_port port (λ done. done) acts) held'
-  stays_living port acts held held' is h = record {
-    once = subst AreKeyedOnce (sym is) h.once;
-    all = λ q t there. either_way (port == q) (acts q) t (h.all q t (ap (at q) (sym is) ∙ there));
-  } where
-    either_way : (b : Bool) (done : List Act) (t : TransferState F D) → Lives done t →
-        Lives (if b then done else done) t
-    either_way true done t h = h
-    either_way false done t h = h
+  stays_living port acts held held' is h = search rules
 
   -- or the file of one alone has changed
   same_next : (port : ℕ) (acts : ℕ → List Act) (held held' : List (ℕ × TransferState F D))
@@ -241,8 +227,7 @@ module _ {S F D : Type 0} (stores : StoreMeaning S D) (sources : SourceMeaning F
 
   came_lives : (old : ServerState S F D) (from : Endpoint) (tid : ℕ) (came : Came S F D) →
       ((transfer : TransferState F D) (store : S) → came ≡ A_transfer transfer store → Begins transfer.end) →
-      at tid old.held ≡ None →
-      (acts : ℕ → List Act) → Living acts old.held →
+      at tid old.held ≡ None → (acts : ℕ → List Act) → Living acts old.held →
       Living (λ q. first_act (came_if (tid == q) came) (acts q)) (left_by came old from tid).new.held
   came_lives old from tid Nothing opens free acts h = h
   came_lives old from tid (Error_reply reply store) opens free acts h = h
@@ -251,8 +236,7 @@ module _ {S F D : Type 0} (stores : StoreMeaning S D) (sources : SourceMeaning F
     all = λ q t there. elim (at-with_new_cases tid q transfer t old.held there) [
       | inl own ↦
           subst (λ (b : Bool). Lives (first_act (came_if b (A_transfer transfer store)) (acts q)) t)
-          (sym (eq-eqb tid q (sym own.0)))
-          (subst (λ (u : TransferState F D). Lives (newest transfer.end ∷ []) u) own.1
+          (sym (eq-eqb tid q (sym own.0))) (subst (λ (u : TransferState F D). Lives (newest transfer.end ∷ []) u) own.1
           (just_opened transfer (opens transfer store refl)))
       | inr other ↦
           subst (λ (b : Bool). Lives (first_act (came_if b (A_transfer transfer store)) (acts q)) t)
@@ -263,28 +247,15 @@ module _ {S F D : Type 0} (stores : StoreMeaning S D) (sources : SourceMeaning F
   -- ---- along a run
   nothing_held : {P : Type 0} (held : List (ℕ × TransferState F D)) (port : ℕ) (transfer : TransferState F D) →
       held ≡ [] → at port held ≡ Some transfer → P
-  nothing_held held port transfer none there =
-      absurd
-      (let f : None ≡ Some transfer =
-      ap (λ (h : List (ℕ × TransferState F D)). at port h) (sym none) ∙ there in cc)
+  nothing_held held port transfer none there = search rules
 
   held_same : (acts : ℕ → List Act) (s t u : LoopState S F D) → t ≡ u → u.server.held ≡ s.server.held →
       Living acts s.server.held → Living acts t.server.held
-  held_same acts s t u is same h =
-      subst (λ (held : List (ℕ × TransferState F D)). Living acts held)
-      (sym (ap (λ (v : LoopState S F D). v.server.held) is ∙ same)) h
+  held_same acts s t u is same h = search rules
 
   -- the configuration never changes
-  step_config : {old new : LoopState S F D} → LoopStep stores sources old new →
-      new.server.config ≡ old.server.config
-  step_config {old} {new} (At_port d) =
-      ap (λ (s : LoopState S F D). s.server.config) d.is
-      ∙ same_config stores sources old.now (port_state old d.timer) d.next d.does
-  step_config {old} {new} (Request_answered d) =
-      ap (λ (s : LoopState S F D). s.server.config) d.is
-      ∙ carried_config stores sources old.server d.from d.bytes _ d.tid d.left
-      (record { came = d.steps.came; goes = d.steps.goes; left = d.steps.left })
-  step_config does = ap (λ (s : LoopState S F D). s.server.config) (state_is does)
+  step_config : {old new : LoopState S F D} → LoopStep stores sources old new → new.server.config ≡ old.server.config
+  step_config h0 = search rules
 
   module _ {start : LoopState S F D} where
     abbrev LivingBy : {now : LoopState S F D} → Run (LoopStep stores sources) start now → Type 0
@@ -294,15 +265,12 @@ module _ {S F D : Type 0} (stores : StoreMeaning S D) (sources : SourceMeaning F
         (does : LoopStep stores sources old new) → IsBlockSize old.server.config.limits.max_block → LivingBy run →
         LivingBy (Then run does)
     step_lives {old} {new} run (At_port d) max h =
-        subst
-        (λ (s : LoopState S F D).
+        subst (λ (s : LoopState S F D).
         Living (λ q. if d.timer.port == q then port_acts d.does (acts_at q run) else acts_at q run) s.server.held)
         (sym d.is) (port_lives old.now (port_state old d.timer) d.next d.does (λ q. acts_at q run) h)
     step_lives {old} {new} run (Request_answered d) max h =
-        subst
-        (λ (s : LoopState S F D).
-        Living (λ q. first_act (came_if (d.tid == q) d.steps.came) (acts_at q run)) s.server.held) (sym d.is)
-        (subst
+        subst (λ (s : LoopState S F D).
+        Living (λ q. first_act (came_if (d.tid == q) d.steps.came) (acts_at q run)) s.server.held) (sym d.is) (subst
         (λ (left : Left S F D).
         Living (λ q. first_act (came_if (d.tid == q) d.steps.came) (acts_at q run)) left.new.held) (sym d.steps.left)
         (came_lives old.server d.from d.tid d.steps.came
@@ -310,8 +278,7 @@ module _ {S F D : Type 0} (stores : StoreMeaning S D) (sources : SourceMeaning F
         store is (port_answers stores sources old.server d.from d.bytes max d.tid d.left d.steps)) d.free
         (λ q. acts_at q run) h))
     step_lives {old} {new} run (Transfer_closed d) max h =
-        subst (λ (s : LoopState S F D). Living (λ q. acts_at q run) s.server.held) (sym d.is)
-        (record {
+        subst (λ (s : LoopState S F D). Living (λ q. acts_at q run) s.server.held) (sym d.is) (record {
           once = once-without d.timer.port old.server.held h.once;
           all = λ q t there. h.all q t (at-without_cases d.timer.port q t old.server.held h.once there).1;
         })

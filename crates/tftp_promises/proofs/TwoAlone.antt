@@ -1,10 +1,8 @@
 -- Programs that are written out: an order of their events is honest, and a server and a client alone have fresh ports.
-use Rattle.tftp_promises.proofs.Common.{◌≡◌, ℕ, List, [], ◌∷◌, Some, None, refl, sym, ap, ◌∙◌, subst, inl, zero, suc}
-use Rattle.tftp_promises.proofs.Common.{◌≢◌, slice_get, same_Some, Contains, SinkMeaning, SourceMeaning, StoreMeaning}
-use Rattle.tftp_promises.proofs.Common.{Endpoint, Received, Sent, ⊤, ArePortsFresh}
-use Rattle.tftp_promises.proofs.Common.{our_ports, Noted, Programs, AreDistinct, endpoint, ClientProgram, ServerProgram}
-use Rattle.tftp_promises.specs.Order.{CanComeOf, IsHonestOf}
-use Rattle.tftp_promises.proofs.KeptEvents.{nothing_in}
+use Rattle.tftp_promises.proofs.Common.{List, ℕ, ◌≡◌, rules, Endpoint, refl, [], SourceMeaning, Some, inl, StoreMeaning}
+use Rattle.tftp_promises.proofs.Common.{◌∷◌, SinkMeaning, Programs, Contains, ◌≢◌, slice_get, Sent, Received, endpoint}
+use Rattle.tftp_promises.proofs.Common.{Noted, our_ports, ArePortsFresh, ClientProgram, ⊤, ServerProgram, IsHonestOf}
+use Rattle.tftp_promises.proofs.Common.{CanComeOf}
 
 module _ (ips : List (List ℕ)) (Strange : Endpoint → Type 0) where
   -- a datagram that this program sent comes to another
@@ -30,22 +28,12 @@ module _ (ips : List (List ℕ)) (Strange : Endpoint → Type 0) where
   honest_if ((program, Received port from bytes) ∷ earlier) d = (d.0, honest_if earlier d.1)
   honest_if ((program, event) ∷ earlier) d = (tt, honest_if earlier d)
 
-pub two_apart : (p q : ℕ) → p ≢ q → AreDistinct (p ∷ q ∷ [])
-two_apart p q n zero zero port e f = refl
-two_apart p q n zero (suc zero) port e f = absurd (n (same_Some p q (e ∙ sym f)))
-two_apart p q n (suc zero) zero port e f = absurd (n (same_Some p q (f ∙ sym e)))
-two_apart p q n (suc zero) (suc zero) port e f = refl
-two_apart p q n zero (suc (suc k)) port e f = absurd (let g : None ≡ Some port = f in cc)
-two_apart p q n (suc zero) (suc (suc k)) port e f = absurd (let g : None ≡ Some port = f in cc)
-two_apart p q n (suc (suc j)) k port e f = absurd (let g : None ≡ Some port = e in cc)
-
 module _ {G K : Type 0} {inputs : SourceMeaning G} {outputs : SinkMeaning K} {to : Endpoint}
     (c : ClientProgram inputs outputs to) where
   -- what holds of the client holds of each
   pub each : (P : ℕ → ClientProgram inputs outputs to → Type 0) → P 0 c → (k : ℕ)
       (x : ClientProgram inputs outputs to) → slice_get (c ∷ []) k ≡ Some x → P k x
-  each P is zero x e = subst (λ (z : ClientProgram inputs outputs to). P 0 z) (same_Some c x e) is
-  each P is (suc k) x e = absurd (let f : None ≡ Some x = e in cc)
+  each P is k x e = search rules
 
 module _ {S F D G K : Type 0} {stores : StoreMeaning S D} {sources : SourceMeaning F} {inputs : SourceMeaning G}
     {outputs : SinkMeaning K} (ip : List ℕ) (port : ℕ) (s : ServerProgram stores sources (endpoint ip port))
@@ -55,9 +43,4 @@ module _ {S F D G K : Type 0} {stores : StoreMeaning S D} {sources : SourceMeani
 
   -- of a client at another address, whose transfer has another port than the requests
   pub fresh_of_two : (tid : ℕ) → port ≢ tid → our_ports two_alone s.run ≡ tid ∷ [] → c.ip ≢ ip → ArePortsFresh two_alone
-  fresh_of_two tid n is away = record {
-    server = subst (λ (opened : List ℕ). AreDistinct (port ∷ opened)) (sym is) (two_apart port tid n);
-    clients = λ i j x y e f same. each c (λ k z. k ≡ 0) refl i x e ∙ sym (each c (λ k z. k ≡ 0) refl j y f);
-    apart = λ i q x e known same. each c (λ k z. z.ip ≢ ip) away i x e (ap (λ (a : Endpoint). a.ip) same);
-    others = λ q known other. nothing_in q other;
-  }
+  fresh_of_two tid n is away = search rules

@@ -1,10 +1,9 @@
 -- A request that repeats that of no open transfer is answered by no end that is shown.
-use Rattle.tftp_promises.proofs.Common.{◌≡◌, ℕ, Bool, true, false, List, [], ◌∷◌, cond, Option, Some, None, refl, sym}
-use Rattle.tftp_promises.proofs.Common.{◌∙◌, subst, inl, inr, rules, true≢false, cases_Bool, is_at, nat_cmp}
-use Rattle.tftp_promises.proofs.Common.{SinkMeaning, SourceMeaning, is_client, StoreMeaning, TransferState, at}
-use Rattle.tftp_promises.proofs.Common.{is_closed, Run, Start, Then, LoopStep, LoopState, Endpoint, OpenEnd, open_view}
-use Rattle.tftp_promises.proofs.Common.{EndView, IsAmong, HasClosed, Programs, Removes, Snapshot, Has_asked}
-use Rattle.tftp_wire.specs.declared.packet.Packet.{Packet as WirePacket}
+use Rattle.tftp_promises.proofs.Common.{List, ℕ, ◌≡◌, rules, sym, Endpoint, refl, [], ◌∙◌, SourceMeaning, Some, subst}
+use Rattle.tftp_promises.proofs.Common.{inl, StoreMeaning, inr, ◌∷◌, SinkMeaning, false, true, None, Programs, Bool}
+use Rattle.tftp_promises.proofs.Common.{Option, true≢false, LoopState, TransferState, LoopStep, OpenEnd, Snapshot, at}
+use Rattle.tftp_promises.proofs.Common.{Run, open_view, Then, Start, WirePacket, EndView, cases_Bool, is_client}
+use Rattle.tftp_promises.proofs.Common.{Has_asked, IsAmong, HasClosed, is_closed, Removes, is_at, cond, nat_cmp}
 use Rattle.tftp_server.specs.State.{AnyRepeats, IsRepeated, Repeats}
 use Rattle.tftp_rules.specs.Shows.{IsAnswering, NoneAnswers}
 use Rattle.tftp_promises.proofs.Invariant.{HasTransferBy, IsKept}
@@ -58,8 +57,7 @@ module _ {S F D G K : Type 0} {stores : StoreMeaning S D} {sources : SourceMeani
   repeats_it x t state request a still = search rules
 
   closed_answers_none : (x : OpenEnd) (t : TransferState F D) → x.state ≡ t.end →
-      IsAnswering (open_view x) from packet →
-      is_closed t ≡ true → ⊥
+      IsAnswering (open_view x) from packet → is_closed t ≡ true → ⊥
   closed_answers_none x t state a closed = search rules
 
   transfer_answers : (port : ℕ) (t : TransferState F D) (b : Endpoint) → HasTransferBy old port t b →

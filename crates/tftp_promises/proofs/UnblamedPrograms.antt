@@ -1,25 +1,22 @@
 -- No end of the programs has blamed a peer that is no stranger where the traces arrive.
 -- For the law no_program_is_blamed.
-use Rattle.tftp_promises.proofs.Common.{◌≡◌, ℕ, suc, zero, ◌≤◌, List, [], ◌∷◌, ◌++◌, length, take, Some, refl, sym, ap}
-use Rattle.tftp_promises.proofs.Common.{◌∙◌, subst, arith, inl, inr, rules, option_map, slice_get, cases_Bool}
-use Rattle.tftp_promises.proofs.Common.{length-append, same_Some, slice_get-map, Mode, wire_text, SinkMeaning}
-use Rattle.tftp_promises.proofs.Common.{SourceMeaning, Files, Source, Sink, Outcome, Role, EndState, StoreMeaning}
-use Rattle.tftp_promises.proofs.Common.{TransferState, Endpoint, OpenEnd, IsUnblamed, alone, heard_with, IsEnd}
-use Rattle.tftp_promises.proofs.Common.{ProgramEnd, moved_in, HasOpened, joined, ArePortsFresh, moved_at, opened_at}
-use Rattle.tftp_promises.proofs.Common.{Programs, ClientOf, client_at, number_of, Has_asked, all_of}
-use Rattle.std.proofs.Common.{replicate}
-use Rattle.tftp_ends.specs.declared.outcome.Outcome.TheVariants as outcomes
+use Rattle.tftp_promises.proofs.Common.{List, ℕ, ◌≡◌, rules, sym, Endpoint, refl, [], ◌∙◌, ap, SourceMeaning, Some}
+use Rattle.tftp_promises.proofs.Common.{subst, inl, StoreMeaning, inr, ◌∷◌, SinkMeaning, ◌++◌, Programs, EndState}
+use Rattle.tftp_promises.proofs.Common.{arith, length, slice_get, TransferState, joined, ClientOf, client_at, same_Some}
+use Rattle.tftp_promises.proofs.Common.{suc, Mode, moved_in, cases_Bool, zero, ◌≤◌, all_of, Outcome, moved_at, Role}
+use Rattle.tftp_promises.proofs.Common.{opened_at, HasOpened, ArePortsFresh, IsUnblamed, ProgramEnd, IsEnd, wire_text}
+use Rattle.tftp_promises.proofs.Common.{heard_with, alone, number_of, take, length-append, MayCloseAs, NoneIsBlamed}
+use Rattle.tftp_promises.proofs.Common.{replicate}
 use Rattle.tftp_rules.proofs.HostBytes.{padded_text}
 use Rattle.tftp_rules.proofs.UnblamedEnds.{BlamesBy}
-use Rattle.tftp_promises.specs.Blamed.{BeginsFile, EachIsUnblamed, MayCloseAs, NoneIsBlamed, ProgramsAreUnblamed}
-use Rattle.tftp_promises.proofs.ClientRoles.{run_role}
+use Rattle.tftp_ends.specs.declared.outcome.Outcome.TheVariants as outcomes
+use Rattle.tftp_promises.specs.Blamed.{BeginsFile, EachIsUnblamed, ProgramsAreUnblamed}
+use Rattle.tftp_promises.proofs.ClientTraces.{run_role}
 use Rattle.tftp_promises.proofs.EachAlone.{each_joined}
-use Rattle.tftp_promises.proofs.Invariant.{ClientKept, IsKept, IsOpened, SendsText, client_text}
-use Rattle.tftp_promises.proofs.Invariant.{HasStored, length_of}
+use Rattle.tftp_promises.proofs.Invariant.{IsKept, SendsText, client_text, length_of, client_kept, stored_opened}
 use Rattle.tftp_promises.proofs.JointRuns.{traces_joint}
-use Rattle.tftp_promises.proofs.KeptFresh.{fresh_at_last}
-use Rattle.tftp_promises.proofs.KeptRuns.{kept_at_last}
-use Rattle.tftp_promises.proofs.KeptSteps.{server_steps_keep}
+use Rattle.tftp_promises.proofs.KeptFresh.{fresh_at_last, kept_at_last}
+use Rattle.tftp_promises.proofs.KeptServes.{server_steps_keep}
 use Rattle.tftp_promises.proofs.NewPlaces.{client_apart}
 use Rattle.tftp_promises.proofs.Places.{strangers_elsewhere}
 use Rattle.tftp_promises.proofs.Texts.{pad_to}
@@ -58,29 +55,17 @@ module _ {S F D G K : Type 0} {stores : StoreMeaning S D} {sources : SourceMeani
   abbrev Client : Type 0
   Client = ClientOf programs
 
-  client_kept : (k : ℕ) (client : Client) → slice_get programs.clients k ≡ Some client →
-      ClientKept programs 0 kept.views kept.messages client client.last client.files (moved_in client.runs)
-  client_kept k client found =
-      kept.clients k client (Has_asked client.last client.files client.noted (moved_in client.runs)) found
-      (slice_get-map (λ (c : Client). Has_asked c.last c.files c.noted (moved_in c.runs)) programs.clients k
-      ∙ ap (option_map (λ (c : Client). Has_asked c.last c.files c.noted (moved_in c.runs))) found)
-
   -- an end has blamed nobody
   unblamed : (x : ProgramEnd) → IsEnd programs x →
       IsUnblamed (joined programs) (SendsText programs 0) kept.messages x.state
   unblamed x (inl of) =
-      let h = client_kept of.0 of.1 of.2 in
+      let h = client_kept kept of.0 of.1 of.2 in
       subst (λ (e : EndState). IsUnblamed (joined programs) (SendsText programs 0) kept.messages e)
       (h.state ∙ ap (λ (z : ProgramEnd). z.state) (sym of.3)) h.viewed.unblamed
   unblamed x (inr of) =
       let h = kept.transfers of.0 of.1 of.2 of.3 in
       subst (λ (e : EndState). IsUnblamed (joined programs) (SendsText programs 0) kept.messages e)
       (h.state ∙ ap (λ (z : ProgramEnd). z.state) (sym of.4)) h.viewed.unblamed
-
-  opened_there : (x : OpenEnd) (files : Files F D) → HasStored 0 (all_of programs) x files →
-      IsOpened programs programs.server.run x
-  opened_there x (Source source) has = has.opened
-  opened_there x (Sink draft) has = has.opened
 
   -- ---- what an end gave is the text of a file, if it begins that of one
   client_sends : (mode : Mode) (k : ℕ) (client : Client) → slice_get programs.clients k ≡ Some client →
@@ -109,7 +94,7 @@ module _ {S F D G K : Type 0} {stores : StoreMeaning S D} {sources : SourceMeani
       let bytes = (moved_at programs a programs.server.run).bytes in
       let text = begun_text mode transfer.end.role.length bytes begins in
       let h = kept.transfers port transfer a there in
-      let o = opened_there h.end transfer.files h.has in
+      let o = stored_opened 0 (all_of programs) h.end transfer.files h.has in
       let long : length_of (opened_at programs a programs.server.run) ≡ transfer.end.role.length =
       ap (λ (b : Endpoint). length_of (opened_at programs b programs.server.run)) (sym h.address)
       ∙ (ap length_of o.opened
@@ -125,8 +110,7 @@ module _ {S F D G K : Type 0} {stores : StoreMeaning S D} {sources : SourceMeani
   sends_text : (mode : Mode) (y : ProgramEnd) → IsEnd programs y →
       BeginsFile mode y.state.role.length y.moved.bytes → SendsText programs 0 y.address mode
   sends_text mode y (inl of) begins =
-      subst (λ (z : ProgramEnd). SendsText programs 0 z.address mode) (sym of.3)
-      (client_sends mode of.0 of.1 of.2
+      subst (λ (z : ProgramEnd). SendsText programs 0 z.address mode) (sym of.3) (client_sends mode of.0 of.1 of.2
       (subst (λ (z : ProgramEnd). BeginsFile mode z.state.role.length z.moved.bytes) of.3 begins))
   sends_text mode y (inr of) begins =
       subst (λ (z : ProgramEnd). SendsText programs 0 z.address mode) (sym of.4)

@@ -1,17 +1,12 @@
 -- One of the servers and one of its clients, for which all other programs are strangers: the other
 -- servers at the address, and the other clients. So the ports of one client's transfers may be
 -- those of another's before and after it.
-use Rattle.std.specs.Prelude.{ℕ, ◌≡◌, ◌≢◌, ◌⊎◌, ◌==◌, false, if◌then◌else◌, List, [], ◌∷◌}
-use Rattle.std.specs.Prelude.{slice_get, Some}
-use Rattle.std.proofs.Common.{refl}
 use Rattle.std.specs.List.{Contains}
-use Rattle.tftp_file.specs.Sink.{SinkMeaning}
-use Rattle.tftp_file.specs.Source.{SourceMeaning}
-use Rattle.tftp_ends.specs.End.{is_complete, is_sender}
-use Rattle.tftp_store.specs.Store.{StoreMeaning}
-use Rattle.tftp_client.specs.Runs.{begun}
-use Rattle.tftp_rules.specs.Machine.{Endpoint}
-use Rattle.tftp_sockets.specs.Trace.SocketEvent.{Received, Sent}
+use Rattle.std.specs.Prelude.{ℕ, ◌≡◌, List, Some, [], slice_get, ◌⊎◌, ◌∷◌, false, if◌then◌else◌}
+use Rattle.std.specs.Prelude.{◌==◌, ◌≢◌}
+use Rattle.tftp_promises.specs.Common.{SourceMeaning, StoreMeaning, Endpoint, SinkMeaning, Sent}
+use Rattle.tftp_promises.specs.Common.{is_complete, Received, is_sender, begun}
+use Rattle.std.proofs.Common.{refl}
 use Rattle.tftp_promises.specs.AnyFiles.{IsEnd, KeepAnyFiles, ProgramEnd, has_of, peer_of}
 use Rattle.tftp_promises.specs.ClientRuns.{Starts}
 use Rattle.tftp_promises.specs.Joined.{AreJoined}
@@ -94,18 +89,10 @@ module _ {S F D G K : Type 0} {stores : StoreMeaning S D} {sources : SourceMeani
   -- the client when it has sent its request
   abbrev pub just_asking : OneClient several → OneClient several
   just_asking client =
-      record {
-        ip = client.ip;
-        port = client.port;
-        reading = client.reading;
-        first = client.first;
-        before = client.before;
-        backoff = client.backoff;
+      record client {
         last = begun client.backoff client.port client.reading client.first client.before;
         files = client.file;
-        file = client.file;
         runs = Starts;
-        opens = client.opens;
         noted =
             Sent client.port client.first.position.last_sent_to client.first.position.last_sent
             ∷ [];

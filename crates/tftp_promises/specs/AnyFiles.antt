@@ -1,28 +1,19 @@
 -- The promises of a transfer in the end state of the traces, over any store and any files: what
 -- moved at an end is read off its run.
-use Rattle.std.specs.Prelude.{ℕ, ◌≡◌, ◌⊎◌, true, false, not, List, [], length, slice_get}
-use Rattle.std.specs.Prelude.{Option, Some, Ok}
-use Rattle.tftp_wire.specs.Spelling.{Spells}
-use Rattle.tftp_file.specs.Netascii.{wire_text}
-use Rattle.tftp_file.specs.Path.{path_of_name}
-use Rattle.tftp_file.specs.Sink.{SinkMeaning}
-use Rattle.tftp_file.specs.Source.{SourceMeaning}
-use Rattle.tftp_file.specs.declared.files.Files.TheVariants.{Source, Sink}
-use Rattle.tftp_ends.specs.End.{EndState, is_client, is_complete, is_sender, record_of}
-use Rattle.tftp_store.specs.Store.{StoreMeaning}
-use Rattle.tftp_store.specs.declared.store.Opening.{Opening}
-use Rattle.tftp_rules.specs.Machine.{Endpoint}
+use Rattle.std.specs.Prelude.{ℕ, ◌≡◌, List, Some, [], slice_get, ◌⊎◌, true, false, length, Ok}
+use Rattle.std.specs.Prelude.{Option, not}
+use Rattle.tftp_promises.specs.Common.{SourceMeaning, StoreMeaning, Endpoint, SinkMeaning, EndState}
+use Rattle.tftp_promises.specs.Common.{is_complete, TransferState, is_sender, Spells, record_of}
+use Rattle.tftp_promises.specs.Common.{Sink, Opening, wire_text, is_client, path_of_name, Source}
 use Rattle.tftp_rules.specs.OpenEnds.{received_text}
 use Rattle.tftp_rules.specs.Safety.{AreSafe, SafetyView}
-use Rattle.tftp_server.specs.State.{TransferState}
 use Rattle.tftp_promises.specs.ClientRuns.{moved_in}
 use Rattle.tftp_promises.specs.Drafts.{HadStore, StoreBegan, TookSince}
 use Rattle.tftp_promises.specs.Given.{GaveSince, StoreOpened}
 use Rattle.tftp_promises.specs.Moved.{Moved}
 use Rattle.tftp_promises.specs.Openings.{moved_at, opened_at}
 use Rattle.tftp_promises.specs.Order.{Programs, IsStranger, ClientOf}
-use Rattle.tftp_promises.specs.Programs.{endpoint, client_at, name_of}
-use Rattle.tftp_promises.specs.Programs.{request_packet}
+use Rattle.tftp_promises.specs.Programs.{endpoint, client_at, name_of, request_packet}
 use Rattle.tftp_promises.specs.Network.{HasOpened}
 
 -- an end in the end state of the traces: its endpoint, its state, and what moved between its file

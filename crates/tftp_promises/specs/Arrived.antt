@@ -1,7 +1,7 @@
 -- The view of an end.
-use Rattle.std.specs.Prelude.{◌≡◌, ◌&&◌, not, is_some}
-use Rattle.tftp_ends.specs.End.{EndState, is_sender, is_client, record_of}
-use Rattle.tftp_rules.specs.Machine.{Endpoint}
+use Rattle.std.specs.Prelude.{◌≡◌, not, ◌&&◌}
+use Rattle.tftp_promises.specs.Common.{Endpoint, EndState, is_sender, record_of, is_client}
+use Rattle.std.specs.Prelude.{is_some}
 use Rattle.tftp_rules.specs.Shows.{EndView}
 
 -- the view is of an end in this state at this endpoint

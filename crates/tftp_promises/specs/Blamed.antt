@@ -1,16 +1,11 @@
 -- How an end of the programs closes whose peer is no stranger: never because of what that peer
 -- sent, except where a file was no netascii.
-use Rattle.std.specs.Prelude.{◌≡◌, ℕ, true, ⊤, List, length, slice_get, Some}
-use Rattle.tftp_wire.specs.declared.mode.Mode.{Mode}
+use Rattle.std.specs.Prelude.{ℕ, ◌≡◌, List, Some, slice_get, true, length}
+use Rattle.tftp_promises.specs.Common.{SourceMeaning, StoreMeaning, Endpoint, SinkMeaning}
+use Rattle.tftp_promises.specs.Common.{is_sender, Mode, record_of, Outcome, wire_text}
+use Rattle.std.specs.Prelude.{⊤}
 use Rattle.tftp_file.specs.Block.{IsPrefixOf}
-use Rattle.tftp_file.specs.Netascii.{wire_text}
-use Rattle.tftp_file.specs.Sink.{SinkMeaning}
-use Rattle.tftp_file.specs.Source.{SourceMeaning}
-use Rattle.tftp_ends.specs.declared.outcome.Outcome.{Outcome}
 use Rattle.tftp_ends.specs.declared.outcome.Outcome.TheVariants as outcomes
-use Rattle.tftp_ends.specs.End.{is_sender, record_of}
-use Rattle.tftp_store.specs.Store.{StoreMeaning}
-use Rattle.tftp_rules.specs.Machine.{Endpoint}
 use Rattle.tftp_promises.specs.Alone.{IsServed, alone}
 use Rattle.tftp_promises.specs.AnyFiles.{IsEnd, IsOurs, ProgramEnd, peer_of}
 use Rattle.tftp_promises.specs.Joined.{AreJoined}

@@ -1,18 +1,12 @@
 -- What a client did, complete or not, is the run of a program.
-use Rattle.std.specs.Prelude.{ℕ, ◌≡◌, true, List, ◌++◌, length}
+use Rattle.std.specs.Prelude.{ℕ, ◌≡◌, List, true, ◌++◌, length}
+use Rattle.tftp_promises.specs.Common.{SourceMeaning, Endpoint, SinkMeaning, SocketEvent, EndState}
+use Rattle.tftp_promises.specs.Common.{is_complete, State, Files, begun, Backoff, printed, Dallies}
 pub use Rattle.tftp_wire.specs.declared.mode.Mode.{Mode}
 pub use Rattle.tftp_wire.specs.declared.mode.Mode.TheVariants.{Octet, Netascii}
-use Rattle.tftp_file.specs.Sink.{SinkMeaning}
-use Rattle.tftp_file.specs.Source.{SourceMeaning}
-use Rattle.tftp_file.specs.declared.files.Files.{Files}
-use Rattle.tftp_ends.specs.End.{EndState, is_complete}
 use Rattle.tftp_ends.specs.declared.side.Side.TheVariants.{ClientRead, ClientWrite}
-use Rattle.tftp_rules.specs.Machine.{Endpoint}
-use Rattle.tftp_sockets.specs.Trace.{SocketEvent}
-use Rattle.tftp_client.specs.Converses.{Converses, State}
+use Rattle.tftp_client.specs.Converses.{Converses}
 use Rattle.tftp_client.specs.Moved.{Moved, nothing_moved, run_moves}
-use Rattle.tftp_ends.specs.declared.backoff.Backoff.{Backoff}
-use Rattle.tftp_client.specs.Runs.{Dallies, begun, printed}
 use Rattle.tftp_promises.specs.ClientRuns.{moved_in}
 use Rattle.tftp_promises.specs.Programs.{ClientOpens, ClientProgram, name_of}
 

@@ -1,20 +1,12 @@
 -- The run of a client, step by step: what its end does over its socket, and the lines that it
 -- prints.
-use Rattle.std.specs.Prelude.{ℕ, ◌≡◌, ◌⊎◌, Bool, List, ◌∷◌}
-use Rattle.tftp_file.specs.Sink.{SinkMeaning}
-use Rattle.tftp_file.specs.Source.{SourceMeaning}
-use Rattle.tftp_file.specs.declared.files.Files.{Files}
-use Rattle.tftp_ends.specs.End.{EndState}
-use Rattle.tftp_rules.specs.Machine.{Endpoint}
-use Rattle.tftp_sockets.specs.declared.watch.Watch.{Watch}
-use Rattle.tftp_sockets.specs.Trace.{SocketEvent, QuietEvent}
-use Rattle.tftp_sockets.specs.Trace.SocketEvent.{Printed}
-use Rattle.tftp_sockets.specs.Trace.QuietEvent.{Empty, Failed}
-use Rattle.tftp_client.specs.Converses.{State, HandlesReceived, IsReadBy, MayElapse, MayWait}
-use Rattle.tftp_client.specs.Converses.{WorksOnFile}
-use Rattle.tftp_client.specs.Converses.{received, renewed, waited}
-use Rattle.tftp_ends.specs.declared.backoff.Backoff.{Backoff}
-use Rattle.tftp_client.specs.Runs.{Runs, Dallies, begun, printed}
+use Rattle.std.specs.Prelude.{ℕ, ◌≡◌, List, ◌⊎◌, ◌∷◌, Bool}
+use Rattle.tftp_promises.specs.Common.{SourceMeaning, Endpoint, SinkMeaning, SocketEvent, EndState}
+use Rattle.tftp_promises.specs.Common.{State, Files, Printed, begun, HandlesReceived, Backoff}
+use Rattle.tftp_promises.specs.Common.{Empty, MayElapse, QuietEvent, Watch, printed, Dallies}
+use Rattle.tftp_promises.specs.Common.{Failed}
+use Rattle.tftp_client.specs.Converses.{IsReadBy, MayWait, WorksOnFile, received, renewed, waited}
+use Rattle.tftp_client.specs.Runs.{Runs}
 use Rattle.tftp_promises.specs.Moved.{Moved, nothing_moved, handling_moves}
 
 -- a client that has printed this line

@@ -1,16 +1,11 @@
 -- What the draft of a transfer of the server took, call by call, since the server's store began it,
 -- and how it was committed.
-use Rattle.std.specs.Prelude.{◌≡◌, ◌⊎◌, ℕ, Bool, true, false, List, Ok, None}
-use Rattle.tftp_wire.specs.declared.mode.Mode.{Mode}
-use Rattle.tftp_negotiate.specs.declared.known.Known.{Known}
-use Rattle.tftp_file.specs.Source.{SourceMeaning}
-use Rattle.tftp_ends.specs.End.{EndState, is_complete, outcome_of}
+use Rattle.std.specs.Prelude.{ℕ, ◌≡◌, List, ◌⊎◌, true, false, None, Bool, Ok}
+use Rattle.tftp_promises.specs.Common.{SourceMeaning, StoreMeaning, LoopStep, LoopState, Run}
+use Rattle.tftp_promises.specs.Common.{EndState, is_complete, Then, Start, Request_answered}
+use Rattle.tftp_promises.specs.Common.{outcome_of, Mode, Known}
 use Rattle.tftp_store.specs.Drafts.{TakesInTurn}
-use Rattle.tftp_store.specs.Store.{StoreMeaning}
 use Rattle.tftp_server.specs.Request.{AsksToWrite}
-use Rattle.tftp_loop.specs.Run.{Run}
-use Rattle.tftp_loop.specs.Run.Run.{Start, Then}
-use Rattle.tftp_loop.specs.Steps.{LoopState, LoopStep, Request_answered}
 
 module _ {S F D : Type 0} {stores : StoreMeaning S D} {sources : SourceMeaning F} where
   -- a step answers this request for the path, in this mode: the store began this draft for it, to

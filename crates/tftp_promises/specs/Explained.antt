@@ -1,13 +1,8 @@
 -- Why a client is not complete: its file or its store failed or is too long, an ERROR came, or all
 -- copies of one datagram, or all answers to them, were lost (RFC 1350, sections 2 and 7).
-use Rattle.std.specs.Prelude.{ℕ, ◌≡◌, ◌⊎◌, true, false, List, slice_get, Some, None}
-use Rattle.tftp_file.specs.Sink.{SinkMeaning}
-use Rattle.tftp_file.specs.Source.{SourceMeaning}
-use Rattle.tftp_ends.specs.End.{is_complete, is_sender}
-use Rattle.tftp_ends.specs.Run.{IsOpen}
-use Rattle.tftp_store.specs.Store.{StoreMeaning}
-use Rattle.tftp_rules.specs.Machine.{Endpoint}
-use Rattle.tftp_lives.specs.Unanswered.{IsOver}
+use Rattle.std.specs.Prelude.{ℕ, ◌≡◌, List, Some, slice_get, ◌⊎◌, true, false, None}
+use Rattle.tftp_promises.specs.Common.{SourceMeaning, StoreMeaning, Endpoint, SinkMeaning}
+use Rattle.tftp_promises.specs.Common.{is_complete, is_sender, IsOver, IsOpen}
 use Rattle.tftp_promises.specs.Alone.{IsServed, alone}
 use Rattle.tftp_promises.specs.AnyFiles.{client_end, peer_of}
 use Rattle.tftp_promises.specs.Failed.{HasFailed}

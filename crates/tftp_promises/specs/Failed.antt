@@ -1,8 +1,7 @@
 -- How an end closes that did not give up, and that no program is to blame for.
-use Rattle.std.specs.Prelude.{◌≡◌, false, Some}
-use Rattle.tftp_ends.specs.declared.outcome.Outcome.{Outcome}
+use Rattle.std.specs.Prelude.{◌≡◌, Some, false}
+use Rattle.tftp_promises.specs.Common.{EndState, is_complete, outcome_of, Outcome}
 use Rattle.tftp_ends.specs.declared.outcome.Outcome.TheVariants as outcomes
-use Rattle.tftp_ends.specs.End.{EndState, is_complete, outcome_of}
 
 -- an outcome for a file or a store that failed, an ERROR that came, or a file that is no netascii
 abbrev pub IsFailure : Outcome → Type 0

@@ -1,17 +1,13 @@
 -- What becomes of a datagram that a server received at its request port (RFC 1350, section 4): a
 -- transfer opens for it, an ERROR answers it, it repeats the request of a transfer that is open, or
 -- it is lost for a stated reason.
-use Rattle.std.specs.Prelude.{ℕ, ◌≡◌, ◌⊎◌, true, List, Some}
-use Rattle.tftp_file.specs.Source.{SourceMeaning}
+use Rattle.std.specs.Prelude.{ℕ, ◌≡◌, List, Some, ◌⊎◌, true}
+use Rattle.tftp_promises.specs.Common.{SourceMeaning, StoreMeaning, Endpoint, LoopStep, LoopState}
+use Rattle.tftp_promises.specs.Common.{Run, Then, Start, TransferState, Error_reply, Nothing}
+use Rattle.tftp_promises.specs.Common.{A_transfer}
 use Rattle.tftp_wire.specs.Reading.{has_error_opcode}
-use Rattle.tftp_ends.specs.declared.endpoint.Endpoint.{Endpoint}
 use Rattle.tftp_ends.specs.declared.error_reply.ErrorReply.{ErrorReply}
-use Rattle.tftp_store.specs.Store.{StoreMeaning}
-use Rattle.tftp_server.specs.Request.{Nothing, Error_reply, A_transfer}
-use Rattle.tftp_server.specs.State.{TransferState}
-use Rattle.tftp_loop.specs.Run.{Run}
-use Rattle.tftp_loop.specs.Run.Run.{Start, Then}
-use Rattle.tftp_loop.specs.Steps.{AnswersRequest, LoopState, LoopStep}
+use Rattle.tftp_loop.specs.Steps.{AnswersRequest}
 use Rattle.tftp_loop.specs.Steps.LoopStep.{Request_received, Request_answered, Request_lost}
 use Rattle.tftp_promises.specs.Programs.{ServerProgram}
 

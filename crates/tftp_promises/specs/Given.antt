@@ -1,16 +1,12 @@
 -- What the source of a transfer of the server gave, call by call, since the server's store opened
 -- it.
-use Rattle.std.specs.Prelude.{◌≡◌, ◌⊎◌, ℕ, List, [], ◌++◌, length, Ok, None}
-use Rattle.tftp_wire.specs.declared.mode.Mode.{Mode}
+use Rattle.std.specs.Prelude.{ℕ, ◌≡◌, List, [], ◌⊎◌, ◌++◌, None, length, Ok}
+use Rattle.tftp_promises.specs.Common.{SourceMeaning, StoreMeaning, LoopStep, LoopState, Run}
+use Rattle.tftp_promises.specs.Common.{EndState, Then, Start, Request_answered, outcome_of, Mode}
+use Rattle.tftp_promises.specs.Common.{Opening}
 use Rattle.tftp_wire.specs.declared.options.RawOption.{RawOption}
-use Rattle.tftp_file.specs.Source.{SourceMeaning, GivesInTurn}
-use Rattle.tftp_ends.specs.End.{EndState, outcome_of}
-use Rattle.tftp_store.specs.Store.{StoreMeaning}
-use Rattle.tftp_store.specs.declared.store.Opening.{Opening}
+use Rattle.tftp_file.specs.Source.{GivesInTurn}
 use Rattle.tftp_server.specs.Request.{AsksToRead}
-use Rattle.tftp_loop.specs.Run.{Run}
-use Rattle.tftp_loop.specs.Run.Run.{Start, Then}
-use Rattle.tftp_loop.specs.Steps.{LoopState, LoopStep, Request_answered}
 
 module _ {S F D : Type 0} {stores : StoreMeaning S D} {sources : SourceMeaning F} where
   -- a step answers this request for the path, in this mode: the store opened this file for it

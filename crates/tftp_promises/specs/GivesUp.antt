@@ -1,24 +1,16 @@
 -- When a client times out: all copies of one datagram were lost between it and the transfer that
 -- serves it.
-use Rattle.std.specs.Prelude.{ℕ, ◌≡◌, ◌⊎◌, ◌==◌, ◌+◌, ◌≤◌, if◌then◌else◌, true, false, List, []}
-use Rattle.std.specs.Prelude.{◌∷◌}
-use Rattle.std.specs.Prelude.{◌++◌, slice_get, Some}
-use Rattle.tftp_wire.specs.Spelling.{Spells, canonical}
-use Rattle.tftp_wire.specs.declared.packet.Packet.{Packet}
-use Rattle.tftp_file.specs.Sink.{SinkMeaning}
-use Rattle.tftp_file.specs.Source.{SourceMeaning}
-use Rattle.tftp_ends.specs.declared.outcome.Outcome.TheVariants as outcomes
+use Rattle.std.specs.Prelude.{ℕ, ◌≡◌, List, Some, [], slice_get, ◌⊎◌, ◌∷◌, true, ◌++◌, false}
+use Rattle.std.specs.Prelude.{if◌then◌else◌, ◌==◌, ◌+◌, ◌≤◌}
+use Rattle.tftp_promises.specs.Common.{SourceMeaning, StoreMeaning, Endpoint, SinkMeaning, LoopStep}
+use Rattle.tftp_promises.specs.Common.{LoopState, SocketEvent, Run, Sent, is_complete, Received}
+use Rattle.tftp_promises.specs.Common.{TransferState, Elapsed, Printed, outcome_of, at, Quiet}
+use Rattle.tftp_promises.specs.Common.{Watched, Took, Spells, Lost, IsOver, is_open, Packet}
+use Rattle.tftp_promises.specs.Common.{canonical}
 use Rattle.tftp_ends.specs.Action.{same_address}
-use Rattle.tftp_ends.specs.End.{is_complete, outcome_of}
-use Rattle.tftp_store.specs.Store.{StoreMeaning}
-use Rattle.tftp_rules.specs.Machine.{Endpoint}
-use Rattle.tftp_server.specs.State.{TransferState, at, is_open}
-use Rattle.tftp_lives.specs.Lives.{Has, HasCopies, Lost, Took}
-use Rattle.tftp_lives.specs.Unanswered.{Awaits, HasSaid, IsOver, IsUnanswered, IsUnheard}
-use Rattle.tftp_sockets.specs.Trace.{SocketEvent}
-use Rattle.tftp_sockets.specs.Trace.SocketEvent.{Received, Sent, Watched, Elapsed, Printed, Quiet}
-use Rattle.tftp_loop.specs.Run.{Run}
-use Rattle.tftp_loop.specs.Steps.{LoopState, LoopStep}
+use Rattle.tftp_lives.specs.Lives.{Has, HasCopies}
+use Rattle.tftp_lives.specs.Unanswered.{Awaits, HasSaid, IsUnanswered, IsUnheard}
+use Rattle.tftp_ends.specs.declared.outcome.Outcome.TheVariants as outcomes
 use Rattle.tftp_promises.specs.AnyFiles.{ServesClient, client_end, peer_of}
 use Rattle.tftp_promises.specs.Joined.{AreJoined}
 use Rattle.tftp_promises.specs.Lived.{AreNoted, AreNotedWhileOpen, IsLiving, acts_at, acts_in}

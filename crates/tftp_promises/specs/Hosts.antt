@@ -1,10 +1,8 @@
 -- Where the programs are in their network.
-use Rattle.std.specs.Prelude.{ℕ, ◌≡◌, ◌↔◌, slice_get, Some}
 use Rattle.std.specs.List.{Contains}
-use Rattle.tftp_file.specs.Sink.{SinkMeaning}
-use Rattle.tftp_file.specs.Source.{SourceMeaning}
-use Rattle.tftp_store.specs.Store.{StoreMeaning}
-use Rattle.tftp_rules.specs.Machine.{Endpoint, At_server, At_client, Elsewhere}
+use Rattle.std.specs.Prelude.{ℕ, ◌≡◌, Some, slice_get, ◌↔◌}
+use Rattle.tftp_promises.specs.Common.{SourceMeaning, StoreMeaning, Endpoint, SinkMeaning}
+use Rattle.tftp_promises.specs.Common.{At_server, At_client, Elsewhere}
 use Rattle.tftp_promises.specs.Openings.{ArePortsFresh, server_ports}
 use Rattle.tftp_promises.specs.Order.{Programs, IsStranger, ClientOf}
 use Rattle.tftp_promises.specs.Programs.{endpoint, client_at}

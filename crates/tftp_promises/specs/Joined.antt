@@ -1,8 +1,6 @@
 -- The ends of programs in an honest network keep the promises of a transfer.
-use Rattle.std.specs.Prelude.{ℕ, ◌≡◌, List, [], slice_get, Some}
-use Rattle.tftp_file.specs.Sink.{SinkMeaning}
-use Rattle.tftp_file.specs.Source.{SourceMeaning}
-use Rattle.tftp_store.specs.Store.{StoreMeaning}
+use Rattle.std.specs.Prelude.{ℕ, ◌≡◌, List, Some, [], slice_get}
+use Rattle.tftp_promises.specs.Common.{SourceMeaning, StoreMeaning, SinkMeaning}
 use Rattle.tftp_promises.specs.AnyFiles.{KeepAnyFiles}
 use Rattle.tftp_promises.specs.Openings.{ArePortsFresh}
 use Rattle.tftp_promises.specs.Order.{Noted, Programs, IsOrder, IsHonest, ClientOf}

@@ -1,25 +1,17 @@
 -- The joint run of all programs: whole steps of theirs, one at a time, each of which receives only
 -- what was sent in the steps before it, or what is a stranger's, or an ERROR.
-use Rattle.std.specs.Prelude.{ℕ, ◌≡◌, ◌⊎◌, List, ◌++◌, slice_get, Some}
 use Rattle.std.specs.List.{Contains}
-use Rattle.tftp_file.specs.Sink.{SinkMeaning}
-use Rattle.tftp_file.specs.Source.{SourceMeaning}
-use Rattle.tftp_file.specs.declared.files.Files.{Files}
-use Rattle.tftp_store.specs.Store.{StoreMeaning}
-use Rattle.tftp_rules.specs.Machine.{Endpoint}
-use Rattle.tftp_sockets.specs.Trace.{SocketEvent}
-use Rattle.tftp_sockets.specs.Trace.SocketEvent.{Received, Sent}
-use Rattle.tftp_loop.specs.Steps.{LoopState, LoopStep}
-use Rattle.tftp_client.specs.Converses.{State}
+use Rattle.std.specs.Prelude.{ℕ, ◌≡◌, List, Some, slice_get, ◌⊎◌, ◌++◌}
+use Rattle.tftp_promises.specs.Common.{SourceMeaning, StoreMeaning, Endpoint, SinkMeaning, LoopStep}
+use Rattle.tftp_promises.specs.Common.{LoopState, SocketEvent, Sent, Received, State, Files}
 use Rattle.tftp_promises.specs.Joined.{AreJoined}
 use Rattle.tftp_promises.specs.Moved.{Moved}
 use Rattle.tftp_promises.specs.Order.{Noted, Programs, MayCome, ClientOf}
 use Rattle.tftp_promises.specs.Others.{DoesOwn}
 use Rattle.tftp_promises.specs.Programs.{endpoint}
 use Rattle.tftp_promises.specs.ClientRuns.{ClientDoes, client_moves}
-use Rattle.tftp_promises.specs.Snapshots.{ClientStage, Unasked, Has_asked, noted_by}
-use Rattle.tftp_promises.specs.Snapshots.{Snapshot, nothing_done, just_asked, server_did}
-use Rattle.tftp_promises.specs.Snapshots.{client_did, all_of}
+use Rattle.tftp_promises.specs.Snapshots.{ClientStage, Unasked, Has_asked, noted_by, Snapshot}
+use Rattle.tftp_promises.specs.Snapshots.{nothing_done, just_asked, server_did, client_did, all_of}
 
 module _ {S F D G K : Type 0} {stores : StoreMeaning S D} {sources : SourceMeaning F}
     {inputs : SourceMeaning G} {outputs : SinkMeaning K}

@@ -1,3 +1,4 @@
+pub mod Common
 pub mod Moved
 pub mod ClientRuns
 pub mod Programs

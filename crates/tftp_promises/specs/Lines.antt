@@ -1,16 +1,10 @@
 -- The lines that a server prints while it serves: one for each transfer that it removes (ours).
 use Rattle.std.specs.Prelude.{ℕ, ◌≡◌, List, [], ◌∷◌, ◌++◌}
-use Rattle.tftp_file.specs.Source.{SourceMeaning}
-use Rattle.tftp_store.specs.Store.{StoreMeaning}
+use Rattle.tftp_promises.specs.Common.{SourceMeaning, StoreMeaning, LoopStep, LoopState}
+use Rattle.tftp_promises.specs.Common.{SocketEvent, Run, Then, Start, Printed, at_start}
+use Rattle.tftp_promises.specs.Common.{ServerState, LoopConfig, Transfer_closed}
 use Rattle.tftp_lines.specs.Printed.{line_text}
 use Rattle.tftp_lines.specs.declared.printed.Printed.TheVariants.{Closed}
-use Rattle.tftp_server.specs.State.{ServerState}
-use Rattle.tftp_sockets.specs.Trace.{SocketEvent}
-use Rattle.tftp_sockets.specs.Trace.SocketEvent.{Printed}
-use Rattle.tftp_loop.specs.Run.{Run}
-use Rattle.tftp_loop.specs.Run.Run.{Start, Then}
-use Rattle.tftp_loop.specs.Steps.{LoopState, LoopStep, Transfer_closed, at_start}
-use Rattle.tftp_loop.specs.declared.serving.LoopConfig.{LoopConfig}
 
 -- the printed lines of a trace, the newest first
 abbrev pub printed_lines : List SocketEvent → List (List ℕ)

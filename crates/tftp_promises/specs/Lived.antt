@@ -1,30 +1,21 @@
 -- What the end of a client has received and sent, by its run, and that of a transfer, by the run of
 -- its server.
-use Rattle.std.specs.Prelude.{ℕ, ◌≡◌, ◌≢◌, ◌==◌, Bool, true, if◌then◌else◌, List, [], ◌∷◌, ◌++◌}
-use Rattle.std.specs.Prelude.{Option, Some, None}
-use Rattle.tftp_file.specs.Sink.{SinkMeaning}
-use Rattle.tftp_file.specs.Source.{SourceMeaning}
-use Rattle.tftp_file.specs.declared.files.Files.{Files}
-use Rattle.tftp_ends.specs.declared.endpoint.Endpoint.{Endpoint}
-use Rattle.tftp_ends.specs.End.{EndState}
+use Rattle.std.specs.Prelude.{ℕ, ◌≡◌, List, Some, [], ◌∷◌, true, ◌++◌, None, if◌then◌else◌, Bool}
+use Rattle.std.specs.Prelude.{◌==◌, ◌≢◌, Option}
+use Rattle.tftp_promises.specs.Common.{SourceMeaning, StoreMeaning, Endpoint, SinkMeaning, LoopStep}
+use Rattle.tftp_promises.specs.Common.{LoopState, SocketEvent, Run, EndState, Sent, Then, Start}
+use Rattle.tftp_promises.specs.Common.{Received, TransferState, State, Files, Elapsed, Printed, at}
+use Rattle.tftp_promises.specs.Common.{Quiet, Watched, Took, Said, Timed, Lost, HandlesReceived}
+use Rattle.tftp_promises.specs.Common.{MayElapse, Answers, Act, PortStep, Loses, PortState, is_open}
+use Rattle.tftp_promises.specs.Common.{drafting_sink}
 use Rattle.tftp_ends.specs.Step.{timeout_turn}
-use Rattle.tftp_store.specs.Store.{StoreMeaning}
-use Rattle.tftp_server.specs.State.{TransferState, at, is_open}
-use Rattle.tftp_server.specs.Draft.{drafting_sink}
-use Rattle.tftp_lives.specs.Lives.{Act, Took, Lost, Said, Timed, Life, newest, with_reply}
+use Rattle.tftp_lives.specs.Lives.{Life, newest, with_reply}
 use Rattle.tftp_lives.specs.Unanswered.{Begins}
-use Rattle.tftp_sockets.specs.Trace.{SocketEvent}
-use Rattle.tftp_sockets.specs.Trace.SocketEvent.{Received, Sent, Watched, Elapsed, Printed, Quiet}
-use Rattle.tftp_loop.specs.Run.{Run}
-use Rattle.tftp_loop.specs.Run.Run.{Start, Then}
-use Rattle.tftp_loop.specs.Steps.{PortState, LoopState, PortStep, LoopStep}
 use Rattle.tftp_loop.specs.Steps.PortStep.{A_datagram, A_lost_datagram, A_late_datagram, A_timeout}
 use Rattle.tftp_loop.specs.Steps.LoopStep.{At_port, Request_answered}
-use Rattle.tftp_client.specs.Converses.{State, HandlesReceived, MayElapse}
-use Rattle.tftp_client.specs.Converses.HandlesReceived.{Answers, Loses}
 use Rattle.tftp_client.specs.Converses.MayElapse.{Stays, Elapses}
-use Rattle.tftp_promises.specs.ClientRuns.{ClientDoes, Receives_one, Times_out, ClientRun}
-use Rattle.tftp_promises.specs.ClientRuns.{Starts, Goes_on}
+use Rattle.tftp_promises.specs.ClientRuns.{ClientDoes, Receives_one, Times_out, ClientRun, Starts}
+use Rattle.tftp_promises.specs.ClientRuns.{Goes_on}
 use Rattle.tftp_promises.specs.Moved.{came_if}
 
 -- ---- a client

@@ -1,14 +1,14 @@
 -- What moved between the file of a server's end and its datagrams, by the run of the server; and of
 -- a client's, as `tftp_client` has it.
-use Rattle.std.specs.Prelude.{ℕ, ◌==◌, Bool, false, if◌then◌else◌, List, [], drop}
-use Rattle.std.specs.Prelude.{Option, Some, None}
-use Rattle.tftp_file.specs.Source.{SourceMeaning}
-use Rattle.tftp_ends.specs.End.{EndState, number_of}
-use Rattle.tftp_store.specs.Store.{StoreMeaning}
-use Rattle.tftp_server.specs.Draft.{files_in, drafting_sink}
-use Rattle.tftp_server.specs.Request.{Came, Nothing, Error_reply, A_transfer}
-use Rattle.tftp_server.specs.State.{TransferState}
-use Rattle.tftp_loop.specs.Steps.{PortState, PortStep, A_datagram}
+use Rattle.std.specs.Prelude.{ℕ, List, Some, [], false, None, if◌then◌else◌, Bool, ◌==◌, Option}
+use Rattle.tftp_promises.specs.Common.{SourceMeaning, StoreMeaning, EndState, TransferState}
+use Rattle.tftp_promises.specs.Common.{PortStep, PortState, drafting_sink, Error_reply, Nothing}
+use Rattle.tftp_promises.specs.Common.{A_transfer}
+use Rattle.std.specs.Prelude.{drop}
+use Rattle.tftp_ends.specs.End.{number_of}
+use Rattle.tftp_server.specs.Draft.{files_in}
+use Rattle.tftp_server.specs.Request.{Came}
+use Rattle.tftp_loop.specs.Steps.{A_datagram}
 pub use Rattle.tftp_client.specs.Moved.{Moved, nothing_moved, with_more, commits_after, acts_move}
 pub use Rattle.tftp_client.specs.Moved.{step_moves, handling_moves}
 

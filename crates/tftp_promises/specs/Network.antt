@@ -1,10 +1,7 @@
 -- The network of the programs, and the transfers that their server opened.
-use Rattle.std.specs.Prelude.{ℕ, ◌≡◌, ◌⊎◌, Some}
-use Rattle.tftp_file.specs.Sink.{SinkMeaning}
-use Rattle.tftp_file.specs.Source.{SourceMeaning}
-use Rattle.tftp_store.specs.Store.{StoreMeaning}
-use Rattle.tftp_rules.specs.Machine.{Endpoint, Network}
-use Rattle.tftp_server.specs.State.{TransferState, at}
+use Rattle.std.specs.Prelude.{ℕ, ◌≡◌, Some, ◌⊎◌}
+use Rattle.tftp_promises.specs.Common.{SourceMeaning, StoreMeaning, Endpoint, SinkMeaning}
+use Rattle.tftp_promises.specs.Common.{TransferState, at, Network}
 use Rattle.tftp_promises.specs.Openings.{HasClosed, place_at}
 use Rattle.tftp_promises.specs.Order.{Programs}
 use Rattle.tftp_promises.specs.Programs.{arrived, network_of}

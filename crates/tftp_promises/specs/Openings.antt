@@ -1,17 +1,14 @@
 -- The transfers that the server of a network opens, each at an endpoint that no other end of the
 -- run has, so that a port may be used again; and what moved at each of them.
-use Rattle.std.specs.Prelude.{ℕ, ◌≡◌, ◌≢◌, ◌⊎◌, ◌==◌, ◌+◌, suc, Bool, true, if◌then◌else◌, List, []}
-use Rattle.std.specs.Prelude.{◌∷◌, ◌++◌, length, map, slice_get, option_map, option_to_list}
-use Rattle.std.specs.Prelude.{Option, Some, None}
 use Rattle.std.specs.List.{Contains}
-use Rattle.tftp_file.specs.Sink.{SinkMeaning}
-use Rattle.tftp_file.specs.Source.{SourceMeaning}
-use Rattle.tftp_store.specs.Store.{StoreMeaning}
-use Rattle.tftp_rules.specs.Machine.{Endpoint, is_same}
-use Rattle.tftp_server.specs.State.{TransferState}
-use Rattle.tftp_loop.specs.Run.{Run}
-use Rattle.tftp_loop.specs.Run.Run.{Start, Then}
-use Rattle.tftp_loop.specs.Steps.{LoopState, LoopStep, At_port, Request_answered}
+use Rattle.std.specs.Prelude.{ℕ, ◌≡◌, List, Some, [], slice_get, ◌⊎◌, ◌∷◌, true, ◌++◌, None}
+use Rattle.std.specs.Prelude.{if◌then◌else◌, Bool, ◌==◌, length, map, ◌≢◌, Option, suc}
+use Rattle.std.specs.Prelude.{option_to_list, ◌+◌}
+use Rattle.tftp_promises.specs.Common.{SourceMeaning, StoreMeaning, Endpoint, SinkMeaning, LoopStep}
+use Rattle.tftp_promises.specs.Common.{LoopState, Run, Then, Start, TransferState, Request_answered}
+use Rattle.tftp_promises.specs.Common.{is_same}
+use Rattle.std.specs.Prelude.{option_map}
+use Rattle.tftp_loop.specs.Steps.{At_port}
 use Rattle.tftp_promises.specs.Moved.{Moved, nothing_moved, came_if, opening_moves, or_before}
 use Rattle.tftp_promises.specs.Moved.{port_moves}
 use Rattle.tftp_promises.specs.Order.{Programs, ClientOf}

@@ -1,15 +1,11 @@
 -- One order of all events of the programs, and a network that delivers only what was sent.
-use Rattle.std.specs.Prelude.{ℕ, ◌≡◌, ◌≢◌, ◌⊎◌, ◌==◌, suc, if◌then◌else◌, List, [], ◌∷◌, map}
-use Rattle.std.specs.Prelude.{slice_get, Some}
 use Rattle.std.specs.List.{Contains}
-use Rattle.tftp_wire.specs.Spelling.{Spells}
+use Rattle.std.specs.Prelude.{ℕ, ◌≡◌, List, Some, [], slice_get, ◌⊎◌, ◌∷◌, if◌then◌else◌, ◌==◌, map}
+use Rattle.std.specs.Prelude.{◌≢◌, suc}
+use Rattle.tftp_promises.specs.Common.{SourceMeaning, StoreMeaning, Endpoint, SinkMeaning}
+use Rattle.tftp_promises.specs.Common.{SocketEvent, Sent, Received, Elapsed, Printed, Quiet}
+use Rattle.tftp_promises.specs.Common.{Watched, Spells}
 use Rattle.tftp_wire.specs.declared.packet.Packet.TheVariants.{Error}
-use Rattle.tftp_file.specs.Sink.{SinkMeaning}
-use Rattle.tftp_file.specs.Source.{SourceMeaning}
-use Rattle.tftp_store.specs.Store.{StoreMeaning}
-use Rattle.tftp_rules.specs.Machine.{Endpoint}
-use Rattle.tftp_sockets.specs.Trace.{SocketEvent}
-use Rattle.tftp_sockets.specs.Trace.SocketEvent.{Received, Sent, Watched, Elapsed, Printed, Quiet}
 use Rattle.tftp_promises.specs.Programs.{endpoint, ServerProgram, ClientProgram, client_at}
 
 -- an event and its program, by a number: first the servers, by their indices, then the clients.

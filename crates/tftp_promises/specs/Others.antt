@@ -1,13 +1,9 @@
 -- Other servers at the address of a server, behind the same request port: a request may come to any
 -- of them, and the client takes the first that answers (RFC 1350, section 4).
-use Rattle.std.specs.Prelude.{ℕ, ◌≡◌, List, None}
 use Rattle.std.specs.List.{Contains}
-use Rattle.tftp_file.specs.Sink.{SinkMeaning}
-use Rattle.tftp_file.specs.Source.{SourceMeaning}
-use Rattle.tftp_file.specs.declared.files.Files.{Files}
-use Rattle.tftp_client.specs.Converses.{State, HandlesReceived}
-use Rattle.tftp_client.specs.Converses.HandlesReceived.{Answers, Loses}
-use Rattle.tftp_rules.specs.Machine.{Endpoint}
+use Rattle.std.specs.Prelude.{ℕ, ◌≡◌, List, None}
+use Rattle.tftp_promises.specs.Common.{SourceMeaning, Endpoint, SinkMeaning, State, Files}
+use Rattle.tftp_promises.specs.Common.{HandlesReceived, Answers, Loses}
 use Rattle.tftp_rules.specs.OpenEnds.{peer_of}
 use Rattle.tftp_promises.specs.ClientRuns.{ClientDoes, Receives_one, ClientRun, Starts, Goes_on}
 use Rattle.tftp_promises.specs.Order.{IsError}

@@ -1,18 +1,11 @@
 -- A client and the transfer that serves it in one order of all events, with bounded loss between
 -- them: a get is complete, and so is a put, if nothing but loss could stop it (RFC 1350, section
 -- 2).
-use Rattle.std.specs.Prelude.{ℕ, ◌≡◌, suc, Bool, true, false, List, [], ◌∷◌, slice_get, Some}
-use Rattle.tftp_file.specs.Sink.{SinkMeaning}
-use Rattle.tftp_file.specs.Source.{SourceMeaning}
-use Rattle.tftp_ends.specs.End.{is_complete, is_sender}
-use Rattle.tftp_ends.specs.Run.{IsOpen}
-use Rattle.tftp_store.specs.Store.{StoreMeaning}
-use Rattle.tftp_rules.specs.Machine.{Endpoint}
-use Rattle.tftp_lives.specs.Lives.{Act, Took, Lost, Said, Timed}
-use Rattle.tftp_lives.specs.Outlasting.{OneAct, acts_of, GaveUp, IsLossBounded}
-use Rattle.tftp_lives.specs.Unanswered.{IsOver}
-use Rattle.tftp_sockets.specs.Trace.{SocketEvent}
-use Rattle.tftp_sockets.specs.Trace.SocketEvent.{Received, Sent, Elapsed}
+use Rattle.std.specs.Prelude.{ℕ, ◌≡◌, List, Some, [], slice_get, ◌∷◌, true, false, Bool, suc}
+use Rattle.tftp_promises.specs.Common.{SourceMeaning, StoreMeaning, Endpoint, SinkMeaning}
+use Rattle.tftp_promises.specs.Common.{SocketEvent, Sent, is_complete, Received, Elapsed, is_sender}
+use Rattle.tftp_promises.specs.Common.{Took, Said, Timed, Lost, IsOver, Act, IsOpen, OneAct}
+use Rattle.tftp_lives.specs.Outlasting.{acts_of, GaveUp, IsLossBounded}
 use Rattle.tftp_promises.specs.AnyFiles.{ServesClient, client_end, peer_of}
 use Rattle.tftp_promises.specs.Failed.{HasFailed}
 use Rattle.tftp_promises.specs.GivesUp.{WasHeld}

@@ -1,13 +1,8 @@
 -- The transfers of a run: their ports, the one that a step removes, and the files under their
 -- paths.
-use Rattle.std.specs.Prelude.{ℕ, ◌≡◌, List, [], ◌++◌, slice_get, Some}
-use Rattle.std.specs.Prelude.{option_to_list}
-use Rattle.tftp_file.specs.Source.{SourceMeaning}
-use Rattle.tftp_store.specs.Store.{StoreMeaning}
-use Rattle.tftp_server.specs.State.{TransferState, at}
-use Rattle.tftp_loop.specs.Run.{Run}
-use Rattle.tftp_loop.specs.Run.Run.{Start, Then}
-use Rattle.tftp_loop.specs.Steps.{LoopState, LoopStep, Request_answered, Transfer_closed}
+use Rattle.std.specs.Prelude.{ℕ, ◌≡◌, List, Some, [], slice_get, ◌++◌, option_to_list}
+use Rattle.tftp_promises.specs.Common.{SourceMeaning, StoreMeaning, LoopStep, LoopState, Run, Then}
+use Rattle.tftp_promises.specs.Common.{Start, TransferState, Request_answered, at, Transfer_closed}
 
 module _ {S F D : Type 0} {stores : StoreMeaning S D} {sources : SourceMeaning F} where
   -- the port of the transfer that a step opens

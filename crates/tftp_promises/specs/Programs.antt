@@ -1,27 +1,15 @@
 -- The programs of a network: servers and their clients, each with its address, its run, and what
 -- the run noted in its trace (RFC 1350, section 4).
-use Rattle.std.specs.Prelude.{ℕ, ◌≡◌, ◌==◌, ◌&&◌, not, Bool, true, false, if◌then◌else◌, List, []}
-use Rattle.std.specs.Prelude.{◌∷◌, ◌++◌, None}
-use Rattle.tftp_wire.specs.declared.mode.Mode.{Mode}
-use Rattle.tftp_wire.specs.declared.packet.Packet.{Packet}
-use Rattle.tftp_wire.specs.declared.packet.Packet.TheVariants.{Read, Write}
+use Rattle.std.specs.Prelude.{ℕ, ◌≡◌, List, [], ◌∷◌, true, ◌++◌, false, None, if◌then◌else◌, Bool}
+use Rattle.std.specs.Prelude.{◌==◌, not, ◌&&◌}
+use Rattle.tftp_promises.specs.Common.{SourceMeaning, StoreMeaning, Endpoint, SinkMeaning, LoopStep}
+use Rattle.tftp_promises.specs.Common.{LoopState, SocketEvent, Run, EndState, State, Files, begun}
+use Rattle.tftp_promises.specs.Common.{Mode, Sink, is_same, Backoff, Source, Packet, Network, Asked}
+use Rattle.tftp_promises.specs.Common.{Read, request_of, At_server, At_client, Elsewhere}
+use Rattle.tftp_wire.specs.declared.packet.Packet.TheVariants.{Write}
 use Rattle.tftp_negotiate.specs.Ranges.{IsBlockSize}
-use Rattle.tftp_negotiate.specs.declared.asked.Asked.{Asked}
-use Rattle.tftp_file.specs.Sink.{SinkMeaning}
-use Rattle.tftp_file.specs.Source.{SourceMeaning}
-use Rattle.tftp_file.specs.declared.files.Files.{Files}
-use Rattle.tftp_file.specs.declared.files.Files.TheVariants.{Source, Sink}
-use Rattle.tftp_ends.specs.End.{EndState}
-use Rattle.tftp_ends.specs.Opening.{MayGet, MayPut, getting, putting, request_of}
-use Rattle.tftp_store.specs.Store.{StoreMeaning}
-use Rattle.tftp_rules.specs.Machine.{Endpoint, is_same, is_same_ip, At_server, At_client}
-use Rattle.tftp_rules.specs.Machine.{Elsewhere, Network}
-use Rattle.tftp_sockets.specs.Trace.{SocketEvent}
-use Rattle.tftp_loop.specs.Run.{Run}
-use Rattle.tftp_loop.specs.Steps.{LoopState, LoopStep}
-use Rattle.tftp_client.specs.Converses.{State}
-use Rattle.tftp_ends.specs.declared.backoff.Backoff.{Backoff}
-use Rattle.tftp_client.specs.Runs.{begun}
+use Rattle.tftp_ends.specs.Opening.{MayGet, MayPut, getting, putting}
+use Rattle.tftp_rules.specs.Machine.{is_same_ip}
 use Rattle.tftp_promises.specs.ClientRuns.{ClientRun}
 
 -- the endpoint of a port at this address

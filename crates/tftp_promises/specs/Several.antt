@@ -1,17 +1,12 @@
 -- Several servers that share an address and a request port, each with a trace of its own, and
 -- their clients. A request may come to any of the servers, and a repeated one to two: the client
 -- takes the first that answers, and the other closes (RFC 1350, section 4).
-use Rattle.std.specs.Prelude.{ℕ, ◌≡◌, ◌+◌, zero, suc, if◌then◌else◌, List, [], ◌∷◌, ◌++◌, length}
-use Rattle.std.specs.Prelude.{map, slice_get, option_to_list, Some}
-use Rattle.tftp_file.specs.Sink.{SinkMeaning}
-use Rattle.tftp_file.specs.Source.{SourceMeaning}
-use Rattle.tftp_store.specs.Store.{StoreMeaning}
-use Rattle.tftp_rules.specs.Machine.{Endpoint, is_same}
-use Rattle.tftp_sockets.specs.Trace.{SocketEvent}
-use Rattle.tftp_sockets.specs.Trace.SocketEvent.{Sent}
-use Rattle.tftp_loop.specs.Run.{Run}
-use Rattle.tftp_loop.specs.Run.Run.{Start, Then}
-use Rattle.tftp_loop.specs.Steps.{LoopState, LoopStep, Request_answered}
+use Rattle.std.specs.Prelude.{ℕ, ◌≡◌, List, Some, [], slice_get, ◌∷◌, ◌++◌, if◌then◌else◌, length}
+use Rattle.std.specs.Prelude.{map, suc, option_to_list, ◌+◌}
+use Rattle.tftp_promises.specs.Common.{SourceMeaning, StoreMeaning, Endpoint, SinkMeaning, LoopStep}
+use Rattle.tftp_promises.specs.Common.{LoopState, SocketEvent, Run, Sent, Then, Start}
+use Rattle.tftp_promises.specs.Common.{Request_answered, is_same}
+use Rattle.std.specs.Prelude.{zero}
 use Rattle.tftp_promises.specs.Order.{Noted, IsHonestOf, IsStrangerTo, events_of}
 use Rattle.tftp_promises.specs.Programs.{endpoint, has_port, ServerProgram, ClientProgram}
 use Rattle.tftp_promises.specs.Programs.{client_at}

@@ -1,17 +1,9 @@
 -- The programs of a network between two of their steps.
-use Rattle.std.specs.Prelude.{ℕ, List, [], ◌∷◌, ◌++◌, map, slice_set}
-use Rattle.tftp_file.specs.Sink.{SinkMeaning}
-use Rattle.tftp_file.specs.Source.{SourceMeaning}
-use Rattle.tftp_file.specs.declared.files.Files.{Files}
-use Rattle.tftp_store.specs.Store.{StoreMeaning}
-use Rattle.tftp_rules.specs.Machine.{Endpoint}
-use Rattle.tftp_sockets.specs.Trace.{SocketEvent}
-use Rattle.tftp_sockets.specs.Trace.SocketEvent.{Sent}
-use Rattle.tftp_loop.specs.Run.{Run}
-use Rattle.tftp_loop.specs.Run.Run.{Start, Then}
-use Rattle.tftp_loop.specs.Steps.{LoopState, LoopStep}
-use Rattle.tftp_client.specs.Converses.{State}
-use Rattle.tftp_client.specs.Runs.{begun}
+use Rattle.std.specs.Prelude.{ℕ, List, [], ◌∷◌, ◌++◌, map}
+use Rattle.tftp_promises.specs.Common.{SourceMeaning, StoreMeaning, Endpoint, SinkMeaning, LoopStep}
+use Rattle.tftp_promises.specs.Common.{LoopState, SocketEvent, Run, Sent, Then, Start, State, Files}
+use Rattle.tftp_promises.specs.Common.{begun}
+use Rattle.std.specs.Prelude.{slice_set}
 use Rattle.tftp_promises.specs.ClientRuns.{moved_in}
 use Rattle.tftp_promises.specs.Moved.{Moved, nothing_moved}
 use Rattle.tftp_promises.specs.Order.{Programs}

@@ -1,15 +1,12 @@
 -- The timers of a server: one for each transfer that it holds, so that a datagram or a timeout at a
 -- port is for one transfer only (RFC 1350, section 4).
-use Rattle.std.specs.Prelude.{ℕ, ◌≡◌, ◌↔◌, List, [], map, IsSome}
 use Rattle.std.specs.List.{Contains}
+use Rattle.std.specs.Prelude.{ℕ, ◌≡◌, List, [], map, ◌↔◌}
+use Rattle.tftp_promises.specs.Common.{SourceMeaning, StoreMeaning, LoopStep, LoopState}
+use Rattle.tftp_promises.specs.Common.{SocketEvent, Run, at, at_start, ServerState, LoopConfig}
+use Rattle.std.specs.Prelude.{IsSome}
 use Rattle.std.specs.Map.{keys_of}
-use Rattle.tftp_file.specs.Source.{SourceMeaning}
-use Rattle.tftp_store.specs.Store.{StoreMeaning}
-use Rattle.tftp_server.specs.State.{ServerState, at}
-use Rattle.tftp_sockets.specs.Trace.{SocketEvent}
-use Rattle.tftp_loop.specs.Run.{Run}
-use Rattle.tftp_loop.specs.Steps.{Timer, LoopState, LoopStep, at_start}
-use Rattle.tftp_loop.specs.declared.serving.LoopConfig.{LoopConfig}
+use Rattle.tftp_loop.specs.Steps.{Timer}
 use Rattle.tftp_promises.specs.Ports.{AreDistinct}
 
 -- the ports of the timers

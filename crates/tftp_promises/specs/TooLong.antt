@@ -1,20 +1,15 @@
 -- When a client refuses the first answer of its server: the file is too long (RFC 1350, section 2;
 -- RFC 2347, "Negotiation Protocol"; RFC 2349, "Transfer Size Option Specification").
-use Rattle.std.specs.Prelude.{ℕ, ◌≡◌, ◌⊎◌, ◌*◌, ◌<◌, ◌≤◌, List, [], Some, Ok}
-use Rattle.tftp_wire.specs.Spelling.{Spells}
+use Rattle.std.specs.Prelude.{ℕ, ◌≡◌, List, Some, [], ◌⊎◌, Ok, ◌≤◌}
+use Rattle.tftp_promises.specs.Common.{SourceMeaning, StoreMeaning, SinkMeaning, outcome_of, Spells}
+use Rattle.tftp_promises.specs.Common.{Known, Opening, path_of_name}
+use Rattle.std.specs.Prelude.{◌*◌, ◌<◌}
 use Rattle.tftp_wire.specs.declared.limits.TheConstants.{MAX_BLOCK}
 use Rattle.tftp_negotiate.specs.Agreed.{size}
 use Rattle.tftp_negotiate.specs.Answer.{answer}
 use Rattle.tftp_negotiate.specs.Asked.{asked_options}
 use Rattle.tftp_negotiate.specs.declared.known.Kind.TheVariants as kinds
-use Rattle.tftp_negotiate.specs.declared.known.Known.{Known}
-use Rattle.tftp_file.specs.Path.{path_of_name}
-use Rattle.tftp_file.specs.Sink.{SinkMeaning}
-use Rattle.tftp_file.specs.Source.{SourceMeaning}
 use Rattle.tftp_ends.specs.declared.outcome.Outcome.TheVariants as outcomes
-use Rattle.tftp_ends.specs.End.{outcome_of}
-use Rattle.tftp_store.specs.Store.{StoreMeaning}
-use Rattle.tftp_store.specs.declared.store.Opening.{Opening}
 use Rattle.tftp_promises.specs.Given.{StoreOpened}
 use Rattle.tftp_promises.specs.Order.{Programs, ClientOf, requests_at}
 use Rattle.tftp_promises.specs.Programs.{OpensToRead, OpensToWrite, To_read, To_write}

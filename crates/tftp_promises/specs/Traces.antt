@@ -1,13 +1,11 @@
 -- What a client notes: its request first, and then only events of its own port, waits, and lines.
 use Rattle.std.specs.Prelude.{ℕ, ◌≡◌, List, [], ◌∷◌, ◌++◌}
+use Rattle.tftp_promises.specs.Common.{SourceMeaning, Endpoint, SinkMeaning, SocketEvent, Sent}
+use Rattle.tftp_promises.specs.Common.{Received, Elapsed, Printed, Quiet, Watched, Empty}
+use Rattle.tftp_promises.specs.Common.{QuietEvent, Failed, Slept}
 use Rattle.std.specs.List.{AllByRecursion}
-use Rattle.tftp_file.specs.Sink.{SinkMeaning}
-use Rattle.tftp_file.specs.Source.{SourceMeaning}
-use Rattle.tftp_rules.specs.Machine.{Endpoint}
-use Rattle.tftp_sockets.specs.Trace.{SocketEvent, QuietEvent}
-use Rattle.tftp_sockets.specs.Trace.SocketEvent.{Received, Sent, Watched, Elapsed, Printed, Quiet}
-use Rattle.tftp_sockets.specs.Trace.QuietEvent.{Empty, Failed, New_socket, No_socket, Out_of_memory}
-use Rattle.tftp_sockets.specs.Trace.QuietEvent.{No_reader, Drain_signalled, Slept, Woke}
+use Rattle.tftp_sockets.specs.Trace.QuietEvent.{New_socket, No_socket, Out_of_memory, No_reader}
+use Rattle.tftp_sockets.specs.Trace.QuietEvent.{Drain_signalled, Woke}
 use Rattle.tftp_promises.specs.Programs.{ClientProgram}
 
 -- a receive at this port without a datagram, or the begin of a wait; a client's waits report none,

@@ -1,25 +1,17 @@
 -- An exchange of programs in which a datagram is lost, over files in memory, that the premises of the
 -- law on bounded loss admit: a client reads a file of one block, in blocks of 8 bytes, by an OACK (RFC
 -- 1350, sections 2 and 6; RFC 2347).
-use Rattle.std.specs.Prelude.{ℕ, ◌≡◌, true, false, List, [], ◌∷◌, reverse, slice_get, Some, None}
-use Rattle.tftp_wire.specs.Spelling.{canonical}
+use Rattle.std.specs.Prelude.{ℕ, ◌≡◌, List, Some, [], slice_get, ◌∷◌, true, false, None}
+use Rattle.tftp_promises.specs.Common.{Endpoint, Sent, is_complete, Received, Elapsed, Quiet}
+use Rattle.tftp_promises.specs.Common.{Watched, Took, Known, Said, Timed, Sink, Empty, Watch}
+use Rattle.tftp_promises.specs.Common.{canonical, OneAct, Asked, Slept, Read, request_of}
+use Rattle.std.specs.Prelude.{reverse}
 use Rattle.tftp_wire.specs.declared.mode.Mode.TheVariants.{Octet}
-use Rattle.tftp_wire.specs.declared.packet.Packet.TheVariants.{Read}
-use Rattle.tftp_negotiate.specs.declared.asked.Asked.{Asked}
-use Rattle.tftp_negotiate.specs.declared.known.Known.{Known}
 use Rattle.tftp_negotiate.specs.declared.known.Known.TheVariants.{Blksize}
 use Rattle.tftp_file.specs.Memory.{MemSinkState, memory_sink, memory_source}
-use Rattle.tftp_file.specs.declared.files.Files.TheVariants.{Sink}
-use Rattle.tftp_ends.specs.End.{is_complete}
-use Rattle.tftp_ends.specs.Opening.{request_of, oack_bytes}
+use Rattle.tftp_ends.specs.Opening.{oack_bytes}
 use Rattle.tftp_ends.specs.Step.{ack_bytes, data_bytes}
 use Rattle.tftp_store.specs.Memory.{memory_meaning}
-use Rattle.tftp_rules.specs.Machine.{Endpoint}
-use Rattle.tftp_lives.specs.Lives.{Said, Timed, Took}
-use Rattle.tftp_lives.specs.Outlasting.{OneAct}
-use Rattle.tftp_sockets.specs.declared.watch.Watch.{Watch}
-use Rattle.tftp_sockets.specs.Trace.SocketEvent.{Received, Sent, Watched, Elapsed, Quiet}
-use Rattle.tftp_sockets.specs.Trace.QuietEvent.{Empty, Slept}
 use Rattle.tftp_promises.specs.AnyFiles.{ServesClient, client_end, peer_of}
 use Rattle.tftp_promises.specs.GivesUp.{WasHeld}
 use Rattle.tftp_promises.specs.Joined.{AreJoined}

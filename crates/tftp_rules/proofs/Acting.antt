@@ -1,10 +1,9 @@
 -- Rules that act in sequence at one end, by the view of that end. For Actions and Refines.
+use Rattle.std.proofs.Common.{rules as std_rules}
 use Rattle.tftp_rules.proofs.Common.{common_steps, ◌≡◌, ◌+◌, Bool, true, false, List, [], ◌∷◌, ◌++◌, sym, refl, ap, ◌∙◌}
-use Rattle.tftp_rules.proofs.Common.{subst, arith, rules, ◌≢◌, Contains, append-nil, Endpoint, Message, Party, Machine}
-use Rattle.tftp_rules.proofs.Common.{Network, Rule, Asks, Opens_plainly, Opens_with, Takes_oack, Takes_ack, Takes_data}
-use Rattle.tftp_rules.proofs.Common.{Appends, Sends_next, Completes, Fails, Fails_with, Fails_to_begin, Says_error}
-use Rattle.tftp_rules.proofs.Common.{Repeats, Strays, actor, Guard, party_after, after, IsLegal, run, ActInTurn}
-use Rattle.tftp_rules.proofs.Common.{party_then, sent_by}
+use Rattle.tftp_rules.proofs.Common.{subst, arith, rules, ◌≢◌, Contains, Endpoint, Message, Party, Machine, Network}
+use Rattle.tftp_rules.proofs.Common.{Rule, Asks, Opens_plainly, Opens_with, actor, Guard, party_after, after, IsLegal}
+use Rattle.tftp_rules.proofs.Common.{run, ActInTurn, party_then, sent_by}
 use Rattle.std.proofs.lemmas.List.Elements.{Contains-append_left}
 use Rattle.tftp_wire.specs.declared.packet.Request.{Request as WireRequest}
 use Rattle.tftp_rules.specs.Rules.{MayAct, OpensNoDuplicate, packets}
@@ -24,38 +23,12 @@ same_after : (b : Unshown) (r : Rule) (x : Party) →
 same_after b (Asks at write request text) x = (record { plain = false; request = request }, refl)
 same_after b (Opens_plainly at peer write request text) x = (record { plain = true; request = request }, refl)
 same_after b (Opens_with at peer write request text size) x = (record { plain = false; request = request }, refl)
-same_after b (Takes_oack at peer size) x = (b, refl)
-same_after b (Takes_ack at peer) x = (b, refl)
-same_after b (Takes_data at peer bytes) x = (b, refl)
-same_after b (Appends at peer bytes) x = (b, refl)
-same_after b (Sends_next at peer) x = (b, refl)
-same_after b (Completes at peer) x = (b, refl)
-same_after b (Fails at) x = (b, refl)
-same_after b (Fails_with at peer bytes) x = (b, refl)
-same_after b (Fails_to_begin at peer size) x = (b, refl)
-same_after b (Says_error at to) x = (b, refl)
-same_after b (Repeats old) x = (b, refl)
-same_after b (Strays stray) x = (b, refl)
-
--- an open end x became y
-pub record KeepsOn (x y : Party) : Type 0 where
-  pub is_open : y.is_open ≡ true
-  pub client : y.client ≡ x.client
-  pub sender : y.sender ≡ x.sender
-  pub request : y.request ≡ x.request
-  pub complete : x.complete ≡ true → y.complete ≡ true
-
-unchanged : (x : Party) → x.is_open ≡ true → KeepsOn x x
-unchanged x o = record { is_open = o; client = refl; sender = refl; request = refl; complete = λ d. d }
-
-on_and_on : (x y z : Party) → KeepsOn x y → KeepsOn y z → KeepsOn x z
-on_and_on x y z g h = search rules
+same_after b r x = (b, refl)
 
 -- only rules of the end at this endpoint, which is now x, have acted in the machine
 pub record WentOn (m : Machine) (a : Endpoint) (all : List Message) (x : Party) (n : Machine) : Type 0 where
   pub sent : n.sent ≡ all
   pub here : (b : Unshown) × (n.party a ≡ with_unshown b x)
-  pub keeps : KeepsOn (m.party a) (n.party a)
   pub others : (q : Endpoint) → q ≢ a → n.party q ≡ m.party q
 
 module _ (network : Network) where
@@ -67,9 +40,10 @@ module _ (network : Network) where
   same_packets : (b : Unshown) (r : Rule) (x : Party) → packets network r (with_unshown b x) ≡ packets network r x
   same_packets b r x = search rules
 
-  keeps_on : (r : Rule) (sent : List Message) (x : Party) → x.is_open ≡ true → MayAct network r sent x →
-      KeepsOn x (party_after r x)
-  keeps_on r sent x o h = search rules
+  -- no rule takes back that an end is open
+  still_open : (r : Rule) (sent : List Message) (x : Party) → x.is_open ≡ true → MayAct network r sent x →
+      (party_after r x).is_open ≡ true
+  still_open r sent x o h = search rules
 
   -- no rule opens an end that is open
   opens_none : (r : Rule) (sent : List Message) (x : Party) (m : Machine) → x.is_open ≡ true → MayAct network r sent x →
@@ -86,15 +60,7 @@ module _ (network : Network) where
       (m.party a).is_open ≡ true → m.party a ≡ with_unshown b x →
       ((d : Message) → Contains before d → Contains m.sent d) → ActInTurn network rs a before x →
       IsLegal network rs m × WentOn m a (m.sent ++ sent_by network rs x) (party_then rs x) (run network rs m)
-  act_in_turn [] a before m b x o e f t = (
-    tt,
-    record {
-      sent = sym (append-nil m.sent);
-      here = (b, e);
-      keeps = unchanged (m.party a) o;
-      others = λ q n. refl;
-    },
-  )
+  act_in_turn [] a before m b x o e f t = search std_rules
   act_in_turn (r ∷ rs) a before m b x o e f t =
       let at = actor r in
       let same : m.party at ≡ m.party a = ap m.party t.0 in
@@ -110,16 +76,15 @@ module _ (network : Network) where
       let now : next.party a ≡ party_after r (m.party at) =
       ap next.party (sym t.0) ∙ with_at m.party at (party_after r (m.party at)) in
       let moved : next.party a ≡ with_unshown c.0 (party_after r x) = now ∙ (ap (party_after r) here ∙ c.1) in
-      let first : KeepsOn (m.party a) (next.party a) =
-      subst (λ (y : Party). KeepsOn (m.party a) y) (sym now) (subst (λ (y : Party). KeepsOn y (party_after r (m.party
-      at))) same (keeps_on r m.sent (m.party at) open_there guard)) in
+      let open_now : (next.party a).is_open ≡ true =
+      ap (λ (y : Party). y.is_open) now ∙ still_open r m.sent (m.party at) open_there guard in
       let sent : next.sent ≡ m.sent ++ packets network r x = ap (λ (ds : List Message). m.sent ++ ds) said in
-      let rest = act_in_turn rs a before next c.0 (party_after r x) first.is_open moved (λ d i. Contains-append_left
+      let rest = act_in_turn rs a before next c.0 (party_after r x) open_now moved (λ d i. Contains-append_left
       m.sent (packets network r (m.party at)) d (f d i)) t.2 in
-      let w = rest.1 in grind (arith, common_steps, opens_none, on_and_on, with_other)
+      let w = rest.1 in grind (arith, common_steps, opens_none, with_other)
 
   -- rules that act in sequence at an open end leave it open
   pub stays_open : (rs : List Rule) (a : Endpoint) (before : List Message) (x : Party) → x.is_open ≡ true →
       ActInTurn network rs a before x → (party_then rs x).is_open ≡ true
   stays_open [] a before x o t = o
-  stays_open (r ∷ rs) a before x o t = stays_open rs a before (party_after r x) (keeps_on r before x o t.1).is_open t.2
+  stays_open (r ∷ rs) a before x o t = stays_open rs a before (party_after r x) (still_open r before x o t.1) t.2

@@ -1,16 +1,17 @@
 -- The actions that a datagram may lead to, each with what is known where it does.
 -- For TermsTaken, and for the laws of worlds (tftp_player).
-use Rattle.tftp_rules.proofs.Common.{◌≡◌, ℕ, ◌+◌, Bool, true, false, List, [], length, Option, Some, None, Result, Ok}
-use Rattle.tftp_rules.proofs.Common.{Err, refl, sym, subst, arith, rules, ◌≢◌, ◌==◌, nat_lt, is_none, ◌&&◌}
-use Rattle.tftp_rules.proofs.Common.{if◌then◌else◌, eqb-true, has_error_opcode, Mode, Read, Write, Oack, agreement}
-use Rattle.tftp_rules.proofs.Common.{Asked, Known, DEFAULT_BLOCK, Refusal, Action, Respond, Send, Store, Response}
-use Rattle.tftp_rules.proofs.Common.{Ignore, WrongPeer, ResendReply, Close, Refuse, Accept, Complete, ErrorReply}
-use Rattle.tftp_rules.proofs.Common.{Outcome, Phase, Waiting, Sending, Receiving, Dallying, Closed, Terms, EndState}
-use Rattle.tftp_rules.proofs.Common.{is_client, terms_of, is_wrong_peer, garbled_response, packet_action}
-use Rattle.tftp_rules.proofs.Common.{datagram_action, sender_action, receiver_action, next_action, dally_response}
-use Rattle.tftp_rules.proofs.Common.{is_readable, reader_action, writer_action, accept_action, refusal_action}
-use Rattle.tftp_rules.proofs.Common.{default_terms, agreed_terms, Endpoint}
-use Rattle.std.specs.Prelude.{◌/◌, ◌*◌, nat_le, ⊤}
+use Rattle.std.proofs.Common.{rules as std_rules}
+use Rattle.tftp_rules.proofs.Common.{◌≡◌, ℕ, ◌+◌, Bool, true, false, List, length, Option, Some, None, Result, Ok, Err}
+use Rattle.tftp_rules.proofs.Common.{refl, sym, subst, arith, rules, ◌≢◌, ◌==◌, nat_lt, is_none, ◌&&◌, if◌then◌else◌}
+use Rattle.tftp_rules.proofs.Common.{eqb-true, has_error_opcode, Mode, Read, Write, Oack, agreement, Asked, Known}
+use Rattle.tftp_rules.proofs.Common.{Refusal, Action, Respond, Send, Store, Response, Ignore, WrongPeer, ResendReply}
+use Rattle.tftp_rules.proofs.Common.{Close, Refuse, Accept, Complete, ErrorReply, Outcome, Phase, Waiting, Sending}
+use Rattle.tftp_rules.proofs.Common.{Receiving, Dallying, Closed, Terms, EndState, is_client, terms_of, is_wrong_peer}
+use Rattle.tftp_rules.proofs.Common.{garbled_response, packet_action, datagram_action, sender_action, receiver_action}
+use Rattle.tftp_rules.proofs.Common.{next_action, dally_response, is_readable, reader_action, writer_action}
+use Rattle.tftp_rules.proofs.Common.{accept_action, refusal_action, default_terms, agreed_terms, Endpoint}
+use Rattle.std.specs.Prelude.{◌/◌, ◌*◌, ⊤}
+use Rattle.tftp_ends.proofs.RunMoves.{if_either}
 use Rattle.tftp_wire.specs.declared.packet.Packet.{Packet}
 use Rattle.tftp_wire.specs.declared.packet.Packet.TheVariants.{Data, Ack, Error}
 use Rattle.tftp_negotiate.specs.declared.known.Kind.TheVariants as kinds
@@ -72,17 +73,7 @@ module _ (known : Option Terms) (from : Endpoint) (decoded : Option Packet) (wro
   Has terms = HasTerms known from decoded wrong terms
 
   either : (b : Bool) (one two : Action) → May one → May two → May (if b then one else two)
-  either true one two h k = h
-  either false one two h k = k
-
-  either_if : (b : Bool) (one two : Action) → (b ≡ true → May one) → May two → May (if b then one else two)
-  either_if true one two h k = h refl
-  either_if false one two h k = k
-
-  says_either : (b : Bool) (one two : Response) → May (Respond one) → May (Respond two) →
-      May (Respond (if b then one else two))
-  says_either true one two h k = h
-  says_either false one two h k = k
+  either b one two h k = if_either May b one two (λ _. h) (λ _. k)
 
   illegal : (terms : Terms) (reply : ErrorReply) → Has terms →
       May (Respond (Refuse (Some terms) reply outcomes.Illegal))
@@ -91,10 +82,6 @@ module _ (known : Option Terms) (from : Endpoint) (decoded : Option Packet) (wro
   module _ (right : wrong ≡ false) where
     sender_takes : (client : Bool) (count : ℕ) (terms : Terms) (n : ℕ) (d : Option Packet) → decoded ≡ d → Has terms →
         May (sender_action client count terms n d)
-    sender_takes client count terms n None is h = illegal terms _ h
-    sender_takes client count terms n (Some (Read request)) is h = illegal terms _ h
-    sender_takes client count terms n (Some (Write request)) is h = illegal terms _ h
-    sender_takes client count terms n (Some (Data number piece)) is h = illegal terms _ h
     sender_takes client count terms n (Some (Ack acked)) is h =
         either (acked == n) _ _
         (either (nat_lt n (count / terms.size + 1)) _ _ (Sends_block terms (n + 1) h (λ e. omega (arith, e))) Completes)
@@ -102,6 +89,7 @@ module _ (known : Option Terms) (from : Endpoint) (decoded : Option Packet) (wro
     sender_takes client count terms n (Some (Error code text)) is h = Hears code text right is
     sender_takes client count terms n (Some (Oack options)) is h =
         either (client && terms.by_oack) _ _ Ignores (illegal terms _ h)
+    sender_takes client count terms n d is h = illegal terms _ h
 
     next_takes : (mode : Mode) (held : List ℕ) (terms : Terms) (n : ℕ) (piece : List ℕ) → Has terms →
         May (next_action mode held terms n piece)
@@ -113,20 +101,18 @@ module _ (known : Option Terms) (from : Endpoint) (decoded : Option Packet) (wro
 
     receiver_takes : (client : Bool) (mode : Mode) (held : List ℕ) (terms : Terms) (n : ℕ) (d : Option Packet) →
         decoded ≡ d → Has terms → May (receiver_action client mode held terms n d)
-    receiver_takes client mode held terms n None is h = illegal terms _ h
-    receiver_takes client mode held terms n (Some (Read request)) is h = illegal terms _ h
-    receiver_takes client mode held terms n (Some (Write request)) is h = illegal terms _ h
     receiver_takes client mode held terms n (Some (Data number piece)) is h =
         either (number == n) _ _ Resends
         (either (nat_lt number n) _ _ Ignores
         (either (number == n + 1) _ _ (next_takes mode held terms number piece h) (illegal terms _ h)))
-    receiver_takes client mode held terms n (Some (Ack acked)) is h = illegal terms _ h
     receiver_takes client mode held terms n (Some (Error code text)) is h = Hears code text right is
     receiver_takes client mode held terms n (Some (Oack options)) is h =
         either (client && terms.by_oack) _ _ (either (n == 0) _ _ Resends Ignores) (illegal terms _ h)
+    receiver_takes client mode held terms n d is h = illegal terms _ h
 
     dally_takes : (n : ℕ) (d : Option Packet) → May (Respond (dally_response n d))
-    dally_takes n (Some (Data number piece)) = says_either (number == n) _ _ Resends Ignores
+    dally_takes n (Some (Data number piece)) =
+        if_either (λ (r : Response). May (Respond r)) (number == n) _ _ (λ _. Resends) (λ _. Ignores)
     dally_takes n d = Ignores
 
     begin_takes : (count : ℕ) (terms : Terms) → known ≡ None → Has terms → May (begin_action count terms)
@@ -158,31 +144,23 @@ module _ (known : Option Terms) (from : Endpoint) (decoded : Option Packet) (wro
 
       reader_takes : (mode : Mode) (asked : Asked) (limit : ℕ) (d : Option Packet) → decoded ≡ d →
           May (reader_action mode asked limit from d)
-      reader_takes mode asked limit None is = no_answer_takes _
-      reader_takes mode asked limit (Some (Read request)) is = no_answer_takes _
-      reader_takes mode asked limit (Some (Write request)) is = no_answer_takes _
       reader_takes mode asked limit (Some (Data number piece)) is =
-          either (number == 1 && nat_le (length piece) DEFAULT_BLOCK) _ _
-          (receiver_takes true mode [] (default_terms from) 0 (Some (Data number piece)) is
-          (plain (Some (Data number piece)) is tt)) (no_answer_takes _)
-      reader_takes mode asked limit (Some (Ack acked)) is = no_answer_takes _
+          search (std_rules, either, length, receiver_takes, true, default_terms, plain, no_answer_takes)
       reader_takes mode asked limit (Some (Error code text)) is = Hears code text right is
       reader_takes mode asked limit (Some (Oack options)) is =
           accept_takes (agreement asked kinds.Read mode options limit)
+      reader_takes mode asked limit d is = no_answer_takes _
 
       writer_takes : (mode : Mode) (asked : Asked) (limit count : ℕ) (d : Option Packet) → decoded ≡ d →
           May (writer_action mode asked limit count from d)
-      writer_takes mode asked limit count None is = no_answer_takes _
-      writer_takes mode asked limit count (Some (Read request)) is = no_answer_takes _
-      writer_takes mode asked limit count (Some (Write request)) is = no_answer_takes _
-      writer_takes mode asked limit count (Some (Data number piece)) is = no_answer_takes _
       writer_takes mode asked limit count (Some (Ack number)) is =
-          either_if (number == 0) _ _
+          if_either May (number == 0) _ _
           (λ z. begin_takes count (default_terms from) none (plain (Some (Ack number)) is (eqb-true number 0 z)))
-          (no_answer_takes _)
+          (λ _. no_answer_takes _)
       writer_takes mode asked limit count (Some (Error code text)) is = Hears code text right is
       writer_takes mode asked limit count (Some (Oack options)) is =
           begin_with_takes count (agreement asked kinds.Write mode options limit)
+      writer_takes mode asked limit count d is = no_answer_takes _
 
     packet_takes : (e : EndState) (phase : Phase) → known ≡ terms_of phase → May (packet_action e from decoded phase)
     packet_takes e (Waiting asked limit) none = search (rules, either, writer_takes, reader_takes)
@@ -194,16 +172,9 @@ module _ (known : Option Terms) (from : Endpoint) (decoded : Option Packet) (wro
     packet_takes e (Closed terms n complete outcome) has = Ignores
 
   garbled_takes : (phase : Phase) → May (Respond (garbled_response phase))
-  garbled_takes (Waiting asked limit) = Garbled
-  garbled_takes (Sending terms n) = Garbled
-  garbled_takes (Receiving terms n) = Garbled
   garbled_takes (Dallying terms n dally) = Ignores
   garbled_takes (Closed terms n complete outcome) = Ignores
-
-  cases_wrong : (b : Bool) (one two : Action) → wrong ≡ b → (b ≡ true → May one) → (b ≡ false → May two) →
-      May (if b then one else two)
-  cases_wrong true one two is h k = h refl
-  cases_wrong false one two is h k = k refl
+  garbled_takes phase = Garbled
 
 -- so it is of the action of an end on a datagram
 pub datagram_takes : (e : EndState) (from : Endpoint) (bytes : List ℕ) (decoded : Option Packet) →
@@ -212,6 +183,8 @@ pub datagram_takes : (e : EndState) (from : Endpoint) (bytes : List ℕ) (decode
 datagram_takes e from bytes decoded =
     let known = terms_of e.position.phase in
     let wrong = is_wrong_peer known e.position.last_sent_to from in
-    cases_wrong known from decoded _ _ _ _ refl (λ yes. either known from decoded wrong (has_error_opcode bytes) _ _
-    Ignores (Stranger yes)) (λ no. either known from decoded wrong (has_error_opcode bytes && is_none decoded) _ _
-    (garbled_takes known from decoded wrong e.position.phase) (packet_takes _ from decoded _ no e _ refl))
+    let May = MayTake known from decoded wrong in
+    if_either May wrong _ _
+    (λ yes. if_either May (has_error_opcode bytes) _ _ (λ _. Ignores) (λ _. Stranger yes))
+    (λ no. if_either May (has_error_opcode bytes && is_none decoded) _ _
+    (λ _. garbled_takes known from decoded wrong e.position.phase) (λ _. packet_takes known from decoded wrong no e _ refl))

@@ -8,10 +8,10 @@ use Rattle.tftp_rules.proofs.Common.{Known, DEFAULT_BLOCK, Refusal, block, Fits,
 use Rattle.tftp_rules.proofs.Common.{Sending, Receiving, Dallying, Closed, Terms, is_sender, is_client, is_complete}
 use Rattle.tftp_rules.proofs.Common.{terms_of, Decodes, is_wrong_peer, same_address, garbled_response, packet_action}
 use Rattle.tftp_rules.proofs.Common.{datagram_action, sender_action, receiver_action, next_action, dally_response}
-use Rattle.tftp_rules.proofs.Common.{is_readable, reader_action, writer_action, accept_action, refusal_action}
-use Rattle.tftp_rules.proofs.Common.{default_terms, EndKept, PhaseKept, IsFromServer, IsThere, Attests, Holds, Endpoint}
-use Rattle.tftp_rules.proofs.Common.{Elsewhere, Machine, Message, Network, Party, start, OpenEnd, has_failed, open_view}
-use Rattle.tftp_rules.proofs.Common.{Rule, message, run, said, EndView, IsShownAt, Matches, Shows}
+use Rattle.tftp_rules.proofs.Common.{reader_action, writer_action, accept_action, refusal_action, default_terms}
+use Rattle.tftp_rules.proofs.Common.{EndKept, PhaseKept, IsFromServer, IsThere, Attests, Holds, Endpoint, Elsewhere}
+use Rattle.tftp_rules.proofs.Common.{Machine, Message, Network, Party, start, OpenEnd, has_failed, open_view, Rule}
+use Rattle.tftp_rules.proofs.Common.{message, run, said, EndView, IsShownAt, Matches, Shows}
 use Rattle.std.proofs.Common.{rules as std_rules}
 use Rattle.std.specs.Prelude.{◌/◌}
 use Rattle.std.proofs.lemmas.Bool.{le-ltb}
@@ -22,7 +22,7 @@ use Rattle.tftp_negotiate.specs.declared.known.Kind.TheVariants as kinds
 use Rattle.tftp_negotiate.specs.declared.refusal.Refusal.TheVariants as refusals
 use Rattle.tftp_ends.specs.declared.outcome.Outcome.TheVariants as outcomes
 use Rattle.tftp_ends.specs.End.{number_of, size_of}
-use Rattle.tftp_rules.proofs.BlamelessTurns.{Allowed, CanSend, Fine, FineResponse, either, either_if, no_terms, IsCalm}
+use Rattle.tftp_rules.proofs.BlamelessTurns.{Allowed, CanSend, Fine, FineResponse, either_if, no_terms, IsCalm}
 use Rattle.tftp_rules.proofs.Grows.{HasPeer, peer_of as peer_is}
 use Rattle.tftp_rules.proofs.NumbersNear.{AreNear, near_run, near_start}
 use Rattle.tftp_rules.proofs.PlainPeers.{HasPlainPeer, plain_answer}
@@ -30,8 +30,7 @@ use Rattle.tftp_rules.proofs.RulesGrow.{run_fit, start_fit, GoToPort, run_goes, 
 use Rattle.tftp_rules.proofs.Runs.{Holds-start, Holds-run}
 use Rattle.tftp_rules.proofs.SaidLemmas.{says_spelled}
 use Rattle.tftp_rules.proofs.Steps.{own_of, same_size, server_end}
-use Rattle.tftp_rules.proofs.StorableBlocks.{IsStorable, and_false, and_true, by_one, differs, from_not, not_false}
-use Rattle.tftp_rules.proofs.StorableBlocks.{storable}
+use Rattle.tftp_rules.proofs.StorableBlocks.{IsStorable, and_false, and_true, by_one, differs, from_not, storable}
 
 -- bytes that spell a packet are decoded as that one
 pub decoded_is : (bytes : List ℕ) (packet : Packet) (decoded : Option Packet) → Spells packet bytes →
@@ -121,6 +120,20 @@ module _ (network : Network) (Blames : Endpoint → Outcome → Type 0) (calm : 
       run_fit network rules start (Holds-start network) (start_fit network) shown.0 from t.is_open
       t.sender x.address t.peer (inr (let z : 1 ≤ (ends from).number = omega (arith, low, many) in z))
 
+  -- the next block, if no terms but these are blamed
+  next_fine : (known : Option Terms) (terms : Terms) →
+      ((o : Outcome) → (Ours → Blames from o → ⊥) → Allowed network Blames (Some terms) o) → (mode : Mode)
+      (held : List ℕ) (number : ℕ) (piece : List ℕ) → (Ours → IsStorable IsText mode held terms.size number piece) →
+      Fine network Blames x known (next_action mode held terms number piece)
+  next_fine known terms allowed mode held number piece h =
+      either_if network Blames x _ _ _ _ (λ long. allowed outcomes.Illegal (λ own b.
+      true≢false (sym long ∙ le-ltb terms.size (length piece) (h own).within))) (λ _. either_if network Blames x _ _ _ _
+      (λ full. allowed outcomes.TooLarge (λ own b.
+      let both = and_true _ _ full in
+      (h own).short (eqb-true number 65535 both.0) (eqb-true (length piece) terms.size both.1))) (λ _. either_if network
+      Blames x _ _ _ _ (λ _. tt) (λ bad. allowed outcomes.NotNetascii (λ own b. true≢false (sym ((h own).readable b) ∙
+      bad)))))
+
   -- ---- from the peer of an end that has one
   module _ (terms : Terms) (known : terms_of now ≡ Some terms) (same : terms.peer ≡ from) where
     blamed : (o : Outcome) → (Ours → Blames from o → ⊥) → Allowed network Blames (Some terms) o
@@ -160,11 +173,11 @@ module _ (network : Network) (Blames : Endpoint → Outcome → Type 0) (calm : 
         true≢false (sym t.sender ∙ ((pair own).sender ∙ ap not sends)))
     sender_fine n phase (Some (Ack acked)) is =
         either_if network Blames x (Some terms) (acked == n) _ _
-        (λ _. either network Blames x (Some terms) (nat_lt n (x.state.role.length / terms.size + 1)) _ _
-        (let kept_now =
+        (λ _. either_if network Blames x (Some terms) (nat_lt n (x.state.role.length / terms.size + 1)) _ _
+        (λ _. let kept_now =
         subst (λ (p : Phase). PhaseKept network x p) phase kept.phase in
         record { before = n; next = refl; sender = kept_now.sender; measured = kept_now.measured; left = kept_now.left })
-        tt)
+        (λ _. tt))
         (λ other. either_if network Blames x (Some terms) (nat_lt acked n) _ _ (λ _. tt)
         (λ late. blamed outcomes.Illegal (λ own b.
         let t = truth own (Ack acked) is in
@@ -179,18 +192,6 @@ module _ (network : Network) (Blames : Endpoint → Outcome → Type 0) (calm : 
         (λ f. blamed outcomes.Illegal (λ own b. no_oack own options is f))
 
     -- ---- a receiver
-    next_fine : (mode : Mode) (held : List ℕ) (number : ℕ) (piece : List ℕ) →
-        (Ours → IsStorable IsText mode held terms.size number piece) →
-        Fine network Blames x (Some terms) (next_action mode held terms number piece)
-    next_fine mode held number piece h =
-        either_if network Blames x (Some terms) (nat_lt terms.size (length piece)) _ _ (λ long. blamed _ (λ own b.
-        true≢false (sym long ∙ le-ltb terms.size (length piece) (h own).within))) (λ _. either_if network Blames x (Some
-        terms) (number == 65535 && (length piece == terms.size)) _ _ (λ full. blamed outcomes.TooLarge (λ own b.
-        let both = and_true (number == 65535) (length piece == terms.size) full in
-        (h own).short (eqb-true number 65535 both.0) (eqb-true (length piece) terms.size both.1))) (λ _. either_if
-        network Blames x (Some terms) (is_readable mode held piece (nat_lt (length piece) terms.size)) _ _ (λ _. tt)
-        (λ bad. blamed outcomes.NotNetascii (λ own b. true≢false (sym ((h own).readable b) ∙ bad)))))
-
     module _ (n : ℕ) (phase : now ≡ Receiving terms n) where
       receives : is_sender x.state.role.side ≡ false
       receives =
@@ -204,21 +205,19 @@ module _ (network : Network) (Blames : Endpoint → Outcome → Type 0) (calm : 
       can_store piece is own =
           let t = truth own (Data (n + 1) piece) is in
           let q = pair own in
-          let mode_is : (ends from).mode ≡ x.state.role.mode = q.mode ∙ at_x.mode in
-          let sizes : (ends from).size ≡ terms.size =
+          let mode_is = q.mode ∙ at_x.mode in
+          let sizes =
           sym (same_size network m holds x.address from (at_x.is_open, t.is_open, peer_x, t.peer)) ∙ size_x in
-          let positive : 0 < terms.size =
-          subst (λ (j : ℕ). 0 < j) size_x (holds.ends x.address at_x.is_open).positive in
-          let fits : Fits (ends from).text terms.size =
-          subst (λ (j : ℕ). Fits (ends from).text j) sizes (fit_peer own (n + 1) piece is) in
+          let positive = subst (λ (j : ℕ). 0 < j) size_x (holds.ends x.address at_x.is_open).positive in
+          let fits = subst (λ (j : ℕ). Fits (ends from).text j) sizes (fit_peer own (n + 1) piece is) in
           let has = (holds.ends x.address at_x.is_open).received (at_x.sender ∙ receives) from peer_x own in
-          let not_done : (ends x.address).complete ≡ false = at_x.complete ∙ ap is_complete phase in
+          let not_done = at_x.complete ∙ ap is_complete phase in
           let stored = wire_text x.state.role.mode x.stored in
           let mine : (ends x.address).text ≡ stored ++ x.state.position.held_back = search std_rules in
-          let received : stored ++ x.state.position.held_back ≡ take (n * terms.size) (ends from).text =
+          let received =
           sym mine ∙ (has.so_far not_done (at_x.failed ∙ ap has_failed phase) ∙ (ap (λ (j : ℕ). take (j * (ends
           x.address).size) (ends from).text) number_x ∙ ap (λ (j : ℕ). take (n * j) (ends from).text) size_x)) in
-          let room : n * terms.size ≤ length (ends from).text =
+          let room =
           subst (λ (j : ℕ). n * j ≤ length (ends from).text) size_x (subst (λ (j : ℕ). j * (ends x.address).size ≤
           length (ends from).text) number_x (has.room not_done)) in
           storable IsText x.state.role.mode x.stored x.state.position.held_back (ends from).text terms.size n piece
@@ -237,7 +236,7 @@ module _ (network : Network) (Blames : Endpoint → Outcome → Type 0) (calm : 
           (λ late. either_if network Blames x (Some terms) (j == n + 1) _ _
           (λ next.
           let j_is : j ≡ n + 1 = eqb-true j (n + 1) next in
-          next_fine x.state.role.mode x.state.position.held_back j piece (λ own.
+          next_fine (Some terms) terms blamed x.state.role.mode x.state.position.held_back j piece (λ own.
           subst (λ (i : ℕ). IsStorable IsText x.state.role.mode x.state.position.held_back terms.size i piece) (sym j_is)
           (can_store piece (is ∙ ap (λ (i : ℕ). Some (Data i piece)) j_is) own)))
           (λ far. blamed outcomes.Illegal (λ own b.
@@ -254,7 +253,7 @@ module _ (network : Network) (Blames : Endpoint → Outcome → Type 0) (calm : 
       receiver_fine (Some (Error code text)) is = λ p e own b. calm.heard p code b
       receiver_fine (Some (Oack options)) is =
           either_if network Blames x (Some terms) (is_client x.state.role.side && terms.by_oack) _ _
-          (λ _. either network Blames x (Some terms) (n == 0) _ _ tt tt)
+          (λ _. either_if network Blames x (Some terms) (n == 0) _ _ (λ _. tt) (λ _. tt))
           (λ f. blamed outcomes.Illegal (λ own b. no_oack own options is f))
 
   refusal_fine : (refusal : Refusal) → Fine network Blames x None (refusal_action refusal)
@@ -286,10 +285,7 @@ module _ (network : Network) (Blames : Endpoint → Outcome → Type 0) (calm : 
     can_store_first piece is own =
         let t = truth own (Data 1 piece) is in
         let kept_now = subst (λ (p : Phase). PhaseKept network x p) phase kept.phase in
-        let near_port : same_address network.request_port from ≡ true =
-        subst (λ (p : Endpoint). same_address p from ≡ true) kept_now.2 (not_false (same_address
-        x.state.position.last_sent_to from) (sym (ap (λ (o : Option Terms). is_wrong_peer o
-        x.state.position.last_sent_to from) none_yet) ∙ right)) in
+        let near_port : same_address network.request_port from ≡ true = search std_rules in
         let here =
         serves (ap (option_map (λ (t : Terms). t.peer)) none_yet) near_port (Data 1 piece) (says_spelled bytes decoded
         says (Data 1 piece) is) tt in
@@ -311,19 +307,6 @@ module _ (network : Network) (Blames : Endpoint → Outcome → Type 0) (calm : 
         readable own b t.is_open t.sender mode_is) received (omega arith) (t.bytes ∙ ap (λ (j : ℕ). block (ends
         from).text j 1) small)
 
-    next_first : (number : ℕ) (piece : List ℕ) → (Ours → IsStorable IsText x.state.role.mode [] DEFAULT_BLOCK number piece) →
-        Fine network Blames x None (next_action x.state.role.mode [] (default_terms from) number piece)
-    next_first number piece h =
-        either_if network Blames x None (nat_lt DEFAULT_BLOCK (length piece)) _ _
-        (λ long. blamed_first outcomes.Illegal (λ own b.
-        true≢false (sym long ∙ le-ltb DEFAULT_BLOCK (length piece) (h own).within)))
-        (λ _. either_if network Blames x None (number == 65535 && (length piece == DEFAULT_BLOCK)) _ _
-        (λ full. blamed_first outcomes.TooLarge (λ own b.
-        let both = and_true (number == 65535) (length piece == DEFAULT_BLOCK) full in
-        (h own).short (eqb-true number 65535 both.0) (eqb-true (length piece) DEFAULT_BLOCK both.1)))
-        (λ _. either_if network Blames x None (is_readable x.state.role.mode [] piece (nat_lt (length piece) DEFAULT_BLOCK)) _ _ (λ _. tt)
-        (λ bad. blamed_first outcomes.NotNetascii (λ own b. true≢false (sym ((h own).readable b) ∙ bad)))))
-
     first_fine : (j : ℕ) (piece : List ℕ) → decoded ≡ Some (Data j piece) → j ≡ 1 →
         Fine network Blames x None
         (receiver_action true x.state.role.mode [] (default_terms from) 0 (Some (Data j piece)))
@@ -331,7 +314,7 @@ module _ (network : Network) (Blames : Endpoint → Outcome → Type 0) (calm : 
         either_if network Blames x None (j == 0) _ _ (λ _. tt)
         (λ _. either_if network Blames x None (nat_lt j 0) _ _ (λ _. tt)
         (λ _. either_if network Blames x None (j == 0 + 1) _ _
-        (λ _. next_first j piece (λ own.
+        (λ _. next_fine None (default_terms from) blamed_first x.state.role.mode [] j piece (λ own.
         subst (λ (i : ℕ). IsStorable IsText x.state.role.mode [] DEFAULT_BLOCK i piece) (sym j_is)
         (can_store_first piece (is ∙ ap (λ (i : ℕ). Some (Data i piece)) j_is) own)))
         (λ far. absurd (differs j 1 far j_is))))
@@ -373,7 +356,7 @@ module _ (network : Network) (Blames : Endpoint → Outcome → Type 0) (calm : 
   pub datagram_fine : Fine network Blames x (terms_of now) (datagram_action x.state from bytes decoded)
   datagram_fine =
       either_if network Blames x (terms_of now) (is_wrong_peer (terms_of now) x.state.position.last_sent_to from) _ _
-      (λ wrong. either network Blames x (terms_of now) (has_error_opcode bytes) _ _ tt tt)
+      (λ wrong. either_if network Blames x (terms_of now) (has_error_opcode bytes) _ _ (λ _. tt) (λ _. tt))
       (λ right. either_if network Blames x (terms_of now) (has_error_opcode bytes && is_none decoded) _ _
       (λ g. garbled_fine now refl right (and_true (has_error_opcode bytes) (is_none decoded) g).1)
       (λ _. packet_fine now refl right))

@@ -1,11 +1,13 @@
 -- A turn blames nobody if its action does not, whatever it means to blame a peer by an outcome.
 -- For BlamelessActions, and for the laws on blame of worlds (tftp_player) and of programs (tftp_promises).
-use Rattle.tftp_rules.proofs.Common.{common_steps, ◌≡◌, ℕ, ◌+◌, ◌*◌, Bool, true, false, List, length, drop, Option}
-use Rattle.tftp_rules.proofs.Common.{Some, None, refl, sym, ◌∙◌, subst, arith, rules, ◌≢◌, if◌then◌else◌, option_map}
-use Rattle.tftp_rules.proofs.Common.{StoreFault, Files, Holding, SinkMeaning, SourceMeaning, Action, Respond, Send}
-use Rattle.tftp_rules.proofs.Common.{Store, Response, Close, Refuse, Complete, Outcome, Phase, Terms, EndState}
-use Rattle.tftp_rules.proofs.Common.{is_sender, terms_of, outcome_of, Turn, Acts, SendsFrom, StoresIn, response_turn}
-use Rattle.tftp_rules.proofs.Common.{timeout_turn, Endpoint, Elsewhere, Network, OpenEnd, files_of}
+use Rattle.std.proofs.lemmas.Grind.{common_steps as std_common_steps}
+use Rattle.std.proofs.Common.{arith as std_arith}
+use Rattle.tftp_rules.proofs.Common.{◌≡◌, ℕ, ◌+◌, ◌*◌, Bool, true, false, List, length, drop, Option, Some, None, ◌≢◌}
+use Rattle.tftp_rules.proofs.Common.{if◌then◌else◌, option_map, StoreFault, Files, Holding, SinkMeaning, SourceMeaning}
+use Rattle.tftp_rules.proofs.Common.{Action, Respond, Send, Store, Response, Close, Refuse, Complete, Outcome, Terms}
+use Rattle.tftp_rules.proofs.Common.{is_sender, terms_of, outcome_of, Turn, Acts, Endpoint, Elsewhere, Network, OpenEnd}
+use Rattle.tftp_rules.proofs.Common.{files_of}
+use Rattle.tftp_ends.proofs.RunMoves.{if_either}
 use Rattle.tftp_ends.specs.declared.outcome.Outcome.TheVariants as outcomes
 use Rattle.tftp_ends.specs.End.{Position}
 
@@ -48,62 +50,24 @@ module _ (network : Network) (Blames : Endpoint → Outcome → Type 0) where
   Fine x known (Send terms number) = CanSend x terms number
   Fine x known (Store terms number) = Unit {0}
 
-  -- of two actions
-  pub either : (x : OpenEnd) (known : Option Terms) (b : Bool) (one two : Action) → Fine x known one →
-      Fine x known two → Fine x known (if b then one else two)
-  either x known true one two h k = h
-  either x known false one two h k = k
-
   -- of two actions, with what was tested
   pub either_if : (x : OpenEnd) (known : Option Terms) (b : Bool) (one two : Action) → (b ≡ true → Fine x known one) →
       (b ≡ false → Fine x known two) → Fine x known (if b then one else two)
-  either_if x known true one two h k = h refl
-  either_if x known false one two h k = k refl
+  either_if x known = if_either (Fine x known)
 
   -- ---- nor does a turn
   -- a position has no outcome that blames
   abbrev pub Blameless : Position → Type 0
   Blameless position = (o : Outcome) → outcome_of position.phase ≡ Some o → Allowed (terms_of position.phase) o
 
-  kept : (turn turn' : Turn) → turn ≡ turn' → Blameless turn'.position → Blameless turn.position
-  kept turn turn' is h = subst (λ (t : Turn). Blameless t.position) (sym is) h
-
-  still_open : (phase : Phase) → outcome_of phase ≡ None → (o : Outcome) → outcome_of phase ≡ Some o →
-      Allowed (terms_of phase) o
-  still_open phase none o is = absurd (let f : None ≡ Some o = sym none ∙ is in cc)
-
-  -- an open end blames nobody
-  pub open_blameless : (position : Position) → outcome_of position.phase ≡ None → Blameless position
-  open_blameless position none = still_open position.phase none
-
   module _ (calm : IsCalm Blames) where
-    response_blameless : (response : Response) (from : Endpoint) (e : EndState) →
-        FineResponse (terms_of e.position.phase) response → Blameless e.position →
-        Blameless (response_turn response from e).position
-    response_blameless response from e s was = search rules
-
-    -- a timeout blames nobody
-    pub timeout_blameless : (e : EndState) → Blameless e.position → Blameless (timeout_turn e).position
-    timeout_blameless e was = search rules
-
     module _ (sources : SourceMeaning (List ℕ)) (known : (text : List ℕ) → sources.left text ≡ Some text)
         (sinks : SinkMeaning Holding) (from : Endpoint) where
-      stores_blameless : (e : EndState) (terms : Terms) (number : ℕ) (piece : List ℕ)
-          (files files' : Files (List ℕ) Holding) (turn : Turn) →
-          StoresIn sources sinks terms number from piece e files turn files' → Blameless turn.position
-      stores_blameless e terms number piece files files' turn d = search rules
-
       -- ---- an end whose source may fail, if that blames nobody
       module _ (x : OpenEnd) (faults : is_sender x.state.role.side ≡ true → (left : List ℕ) (want : ℕ) →
           sources.may_fail left want → (p : Endpoint) → Blames p outcomes.SourceFault → ⊥) where
-        sends_blameless : (terms : Terms) (number : ℕ) (files' : Files (List ℕ) Holding) (turn : Turn) →
-            CanSend x terms number → SendsFrom sources sinks terms number from x.state (files_of x) turn files' →
-            Blameless turn.position
-        sends_blameless terms number files' turn can d = grind (arith, common_steps)
-
         -- a turn blames nobody if its action does not
         pub acts_blameless : (bytes : List ℕ) (action : Action) (files' : Files (List ℕ) Holding) (turn : Turn) →
             Fine x (terms_of x.state.position.phase) action → outcome_of x.state.position.phase ≡ None →
             Acts sources sinks action from bytes x.state (files_of x) turn files' → Blameless turn.position
-        acts_blameless bytes action files' turn s still a =
-            search (rules, kept, response_blameless, open_blameless, sends_blameless, stores_blameless)
+        acts_blameless bytes action files' turn s still a = grind (std_arith, std_common_steps)

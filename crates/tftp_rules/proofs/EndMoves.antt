@@ -1,9 +1,10 @@
 -- The answers of an open end that touch no file: ERRORs, retransmissions, acknowledgements. For four other files and
 -- the crates tftp_player and tftp_promises.
+use Rattle.std.proofs.Common.{rules as std_rules}
 use Rattle.tftp_rules.proofs.Common.{◌≡◌, ℕ, ◌-◌, Bool, true, false, List, [], ◌∷◌, ◌++◌, Option, Some, sym, refl, ap}
-use Rattle.tftp_rules.proofs.Common.{subst, arith, inl, rules, if◌then◌else◌, is_some, Contains, true≢false, append-nil}
-use Rattle.tftp_rules.proofs.Common.{IsValid, canonical, Files, IsPrefixOf, wire_text, Holding, ErrorReply, Outcome}
-use Rattle.tftp_rules.proofs.Common.{Phase, Terms, Response, Ignore, WrongPeer, ResendReply, Close, Refuse, is_sender}
+use Rattle.tftp_rules.proofs.Common.{subst, arith, inl, rules, if◌then◌else◌, is_some, Contains, append-nil, IsValid}
+use Rattle.tftp_rules.proofs.Common.{canonical, Files, IsPrefixOf, wire_text, Holding, ErrorReply, Outcome, Phase}
+use Rattle.tftp_rules.proofs.Common.{Terms, Response, Ignore, WrongPeer, ResendReply, Close, Refuse, is_sender}
 use Rattle.tftp_rules.proofs.Common.{terms_of, is_complete, outcome_of, Turn, response_turn, with_position, Endpoint}
 use Rattle.tftp_rules.proofs.Common.{Error, Message, Network, Rule, Says_error, Repeats, message, said, EndView}
 use Rattle.tftp_rules.proofs.Common.{OpenEnd, files_of, in_state, end_after, goes_on, has_failed, open_view, EndKept}
@@ -35,10 +36,6 @@ text_cut : (b g : Bool) (f w h : List ℕ) → IsPrefixOf (if b then f else w) (
 text_cut true g f w h = ([], append-nil f)
 text_cut false true f w h = (h, refl)
 text_cut false false f w h = ([], append-nil w)
-
-text_sent : (b g : Bool) (f w h : List ℕ) → b ≡ true → (if b then f else if g then w ++ h else w) ≡ (if b then f else w)
-text_sent true g f w h e = refl
-text_sent false g f w h e = absurd (true≢false (sym e))
 
 -- an end that gave up
 pub failed_view : (e : EndView) (t : List ℕ) (b : Bool) (p : Option Endpoint) (size : ℕ) → b ≡ false →
@@ -143,20 +140,23 @@ module _ (network : Network) where
         x.state) x)
     closed_kept terms outcome = record { phase = tt; held_back = kept.held_back; committed = kept.committed }
 
+    -- what it has of a text once it has closed: nothing that it held back
+    abbrev text_left : List ℕ
+    text_left = if is_sender x.state.role.side then x.text else wire_text x.state.role.mode x.stored
+
+    left_first : IsPrefixOf text_left (text_of_end x)
+    left_first = search (std_rules, text_cut, is_sender, goes_on, wire_text)
+
+    left_sent : is_sender x.state.role.side ≡ true → text_of_end x ≡ text_left
+    left_sent = search std_rules
+
     -- it closes without a reply
     pub gives_up : (outcome : Outcome) (from : Endpoint) → goes_on x.state.position.phase ≡ true →
         Goes network first views messages k x (response_turn (Close outcome) from x.state)
         (in_state (with_position (after (Close outcome) from x.state) x.state) x)
     gives_up outcome from going =
-        let y = in_state (with_position (after (Close outcome) from x.state) x.state) x in
         let live = going_live x.state.position.phase going in
-        let b = is_sender x.state.role.side in
-        let f = x.text in
-        let w = wire_text x.state.role.mode x.stored in
-        let shown_now =
-        closes network first views messages k (open_view x) s (text_of_end y) live (text_cut b (goes_on
-        x.state.position.phase) f w x.state.position.held_back) (text_sent b (goes_on x.state.position.phase) f w
-        x.state.position.held_back) in
+        let shown_now = closes network first views messages k (open_view x) s text_left live left_first left_sent in
         search rules
 
     -- it gives up, and sends an ERROR
@@ -166,15 +166,6 @@ module _ (network : Network) where
         from x.state) (in_state (with_position (after (Refuse (terms_of x.state.position.phase) reply outcome) from
         x.state) x.state) x)
     refuses_now reply outcome from going =
-        let y =
-        in_state (with_position (after (Refuse (terms_of x.state.position.phase) reply outcome) from x.state) x.state) x
-        in
-        let live = going_live x.state.position.phase going in
-        let b = is_sender x.state.role.side in
-        let f = x.text in
-        let w = wire_text x.state.role.mode x.stored in
-        let shown_now =
-        refuses network first views messages k (open_view x) s from (text_of_end y) live (text_cut b (goes_on
-        x.state.position.phase) f w x.state.position.held_back) (text_sent b (goes_on x.state.position.phase) f w
-        x.state.position.held_back) in
+        let live = going_live _ going in
+        let shown_now = refuses _ _ _ _ k _ s from _ live left_first left_sent in
         search (rules, failed_view, error_says, closed_kept)

@@ -1,5 +1,6 @@
 -- An open end with any datagram, and at a timeout. For `an_open_end_takes_its_turn` and the crates tftp_player and
 -- tftp_promises.
+use Rattle.std.proofs.Common.{rules as std_rules}
 use Rattle.tftp_rules.proofs.Common.{◌≡◌, ℕ, Bool, true, false, List, [], Option, Some, refl, inl, arith, rules, ◌==◌}
 use Rattle.tftp_rules.proofs.Common.{◌&&◌, if◌then◌else◌, is_none, is_some, true≢false, Spells, Fresh, Phase, Waiting}
 use Rattle.tftp_rules.proofs.Common.{Sending, Receiving, Dallying, Closed, Terms, Action, Respond, Response, Ignore}
@@ -20,7 +21,7 @@ use Rattle.tftp_rules.specs.EndShown.{DatagramTurnsAreShown, TimeoutTurnsAreShow
 use Rattle.tftp_rules.proofs.Actions.{goes}
 use Rattle.tftp_rules.proofs.EndMoves.{from_response, gives_up, retries}
 use Rattle.tftp_rules.proofs.SaidLemmas.{says_spelled}
-use Rattle.tftp_rules.proofs.PhaseMoves.{Acting, OfDecoded, if_acts, not_false, same_endpoints, ignore_acts}
+use Rattle.tftp_rules.proofs.PhaseMoves.{Acting, OfDecoded, close_acts, if_acts, not_false, same_endpoints, ignore_acts}
 use Rattle.tftp_rules.proofs.PhaseMoves.{wrong_peer_acts, sender_acts, receiver_acts, dally_acts}
 use Rattle.tftp_rules.proofs.WaitingMoves.{OfServer, reader_acts, writer_acts}
 
@@ -51,8 +52,7 @@ module _ (network : Network) where
         sender_acts network first views messages k x0 terms n s kept from bytes (is_client x0.state.role.side) decoded
         (same_endpoints terms.peer from (not_false (same_endpoint terms.peer from) near)) come
     by_packet (Receiving terms n) s kept serves o near =
-        receiver_acts network first views messages k x0 terms n s kept from bytes (same_endpoints terms.peer from
-        (not_false (same_endpoint terms.peer from) near)) old (is_client x0.state.role.side) decoded spelled come
+        search (std_rules, receiver_acts, same_endpoints, not_false, is_client)
     by_packet (Dallying terms n dally) s kept serves o near =
         dally_acts network first views messages k x0 terms n dally s kept from bytes (same_endpoints terms.peer from
         (not_false (same_endpoint terms.peer from) near)) old decoded
@@ -61,23 +61,18 @@ module _ (network : Network) where
     -- a malformed ERROR
     by_garbled : (phase : Phase) → There phase → EndKept network (with_phase phase x0) →
         is_some (outcome_of phase) ≡ false → Goes_on phase (Respond (garbled_response phase))
-    by_garbled (Waiting asked limit) s kept o turn held h =
-        let x =
-        with_phase (Waiting asked limit) x0 in from_response network first views messages k x
-        (Close outcomes.Illegal) from turn held (gives_up network first views messages k x s kept outcomes.Illegal
-        from refl) h
-    by_garbled (Sending terms n) s kept o turn held h =
-        let x =
-        with_phase (Sending terms n) x0 in from_response network first views messages k x (Close outcomes.Illegal)
-        from turn held (gives_up network first views messages k x s kept outcomes.Illegal from refl) h
-    by_garbled (Receiving terms n) s kept o turn held h =
-        let x =
-        with_phase (Receiving terms n) x0 in from_response network first views messages k x (Close outcomes.Illegal)
-        from turn held (gives_up network first views messages k x s kept outcomes.Illegal from refl) h
-    by_garbled (Dallying terms n dally) s kept o turn held h =
-        ignore_acts network first views messages k (with_phase (Dallying terms n dally) x0) s kept from bytes refl turn
-        held h
-    by_garbled (Closed terms n complete outcome) s kept o turn held h = absurd (true≢false o)
+    by_garbled (Waiting asked limit) s kept o =
+        close_acts network first views messages k (with_phase (Waiting asked limit) x0) s kept from bytes refl
+        outcomes.Illegal
+    by_garbled (Sending terms n) s kept o =
+        close_acts network first views messages k (with_phase (Sending terms n) x0) s kept from bytes refl
+        outcomes.Illegal
+    by_garbled (Receiving terms n) s kept o =
+        close_acts network first views messages k (with_phase (Receiving terms n) x0) s kept from bytes refl
+        outcomes.Illegal
+    by_garbled (Dallying terms n dally) s kept o =
+        ignore_acts network first views messages k (with_phase (Dallying terms n dally) x0) s kept from bytes refl
+    by_garbled (Closed terms n complete outcome) s kept o = absurd (true≢false o)
 
     -- an open end with any datagram
     pub by_datagram : (phase : Phase) → There phase → EndKept network (with_phase phase x0) →
@@ -86,10 +81,6 @@ module _ (network : Network) where
     by_datagram phase s kept serves o =
         let P = Goes_on phase in
         let e = (with_phase phase x0).state in
-        let far = is_wrong_peer (terms_of phase) x0.state.position.last_sent_to from in
-        let near_action =
-        if has_error_opcode bytes && is_none decoded then Respond (garbled_response phase) else packet_action e from
-        decoded phase in
         if_acts P _ _ _ (λ f. if_acts P (has_error_opcode bytes) (Respond Ignore) (Respond WrongPeer) (λ b. ignore_acts
         _ _ _ _ k _ s kept from bytes o) (λ b. wrong_peer_acts _ _ _ _ k _ s kept from bytes o)) (λ f. if_acts P
         (has_error_opcode bytes && is_none decoded) (Respond (garbled_response phase)) (packet_action e from decoded

@@ -1,11 +1,13 @@
 -- An open end of the machine continues: what does not change, and what its datagrams imply stays true. For twelve
 -- other files and the crate tftp_player.
-use Rattle.tftp_rules.proofs.Common.{◌≡◌, ◌≤◌, true, not, List, ◌++◌, Some, sym, ap, ◌∙◌, subst, inl, inr, rules, ◌≢◌}
-use Rattle.tftp_rules.proofs.Common.{Contains, Contains-append_cases, Endpoint, is_same, Elsewhere, Packet, Message}
-use Rattle.tftp_rules.proofs.Common.{Party, Machine, with_end, Network, Attests, HasReceived, IsSoundParty, Holds}
+use Rattle.std.proofs.Common.{rules as std_rules}
+use Rattle.tftp_rules.proofs.Common.{◌≡◌, ◌≤◌, true, not, List, [], ◌∷◌, ◌++◌, Some, sym, subst, inl, inr, rules, ◌≢◌}
+use Rattle.tftp_rules.proofs.Common.{message, Contains, Contains-append_cases, Endpoint, is_same, Elsewhere, Packet}
+use Rattle.tftp_rules.proofs.Common.{Message, Party, Machine, with_end, Network, Attests, HasReceived, IsSoundParty}
+use Rattle.tftp_rules.proofs.Common.{Holds}
 use Rattle.std.proofs.lemmas.Bool.{cond-true, cond-false}
-use Rattle.tftp_rules.proofs.Endpoints.{cases_same, same_self, same_other}
-use Rattle.tftp_rules.specs.Facts.{IsServing}
+use Rattle.tftp_rules.proofs.Endpoints.{same_self, same_other}
+use Rattle.tftp_rules.proofs.Steps.{none_sent}
 
 -- an open end x became y
 pub record Grows (x y : Party) : Type 0 where
@@ -34,6 +36,12 @@ pub with_other : (ends : Endpoint → Party) (a : Endpoint) (x : Party) (q : End
     with_end ends a x q ≡ ends q
 with_other ends a x q n = cond-false (is_same q a) x (ends q) (same_other q a n)
 
+-- what holds of each open end still does once this holds of one that changed
+pub with_each : (P : Endpoint → Party → Type 0) (ends : Endpoint → Party) (a : Endpoint) (x : Party) →
+    (x.is_open ≡ true → P a x) → ((q : Endpoint) → (ends q).is_open ≡ true → P q (ends q)) → (q : Endpoint) →
+    (with_end ends a x q).is_open ≡ true → P q (with_end ends a x q)
+with_each P ends a x now old q o = search std_rules
+
 -- every open end of the first continues in the second
 pub record AllGrow (ends new : Endpoint → Party) : Type 0 where
   pub grows : (q : Endpoint) → (ends q).is_open ≡ true → Grows (ends q) (new q)
@@ -48,10 +56,6 @@ pub Attests-grows : (x y : Party) → (x.is_open ≡ true → Grows x y) → (to
     Attests y to k
 Attests-grows x y f to k h = search rules
 
--- a server's end that serves a client still does as it goes on
-pub IsServing-grows : (a : Endpoint) (x y z : Party) → Grows y z → IsServing a x y → IsServing a x z
-IsServing-grows a x y z g h = search rules
-
 -- what a receiver has is still the beginning of its sender's text as the sender goes on
 pub HasReceived-grows : (x y z : Party) → Grows y z → y.sender ≡ true → HasReceived x y → HasReceived x z
 HasReceived-grows x y z g s h = search rules
@@ -62,6 +66,11 @@ pub record HasPeer (x y : Party) : Type 0 where
   pub client : y.client ≡ not x.client
   pub mode : y.mode ≡ x.mode
   pub sender : y.sender ≡ not x.sender
+
+-- what is true of an end's datagram stays true where that end is put into the machine
+pub attested_at : (ends : Endpoint → Party) (a : Endpoint) (x : Party) (to : Endpoint) (k : Packet) → Attests x to k →
+    Attests (with_end ends a x a) to k
+attested_at ends a x to k t = subst (λ (y : Party). Attests y to k) (sym (with_at ends a x)) t
 
 module _ (network : Network) where
   -- the peer of a consistent end is an end of the other host that has it for its peer
@@ -85,18 +94,21 @@ module _ (network : Network) where
       let all = AllGrow-with m.party a x g in
       let new = with_end m.party a x in
       record {
-        ends = λ q o. elim (cases_same q a) [
-          | inl e ↦ let at_a : new q ≡ x = ap new e ∙ with_at m.party a x in
-              subst (λ (z : Endpoint). IsSoundParty network new z (new q)) (sym e)
-              (subst (λ (y : Party). IsSoundParty network new a y) (sym at_a)
-              (s (subst (λ (y : Party). y.is_open ≡ true) at_a o)))
-          | inr n ↦ let at_q : new q ≡ m.party q = with_other m.party a x q n in
-              subst (λ (y : Party). IsSoundParty network new q y) (sym at_q)
-              (IsSound-grows m.party new all q (m.party q)
-              (h.ends q (subst (λ (y : Party). y.is_open ≡ true) at_q o)))
-        ];
+        ends = with_each (IsSoundParty network new) m.party a x s (λ q o.
+            IsSound-grows m.party new all q (m.party q) (h.ends q o));
         attested = λ d i o. elim (Contains-append_cases m.sent added d i) [
           | inl old ↦ Attests-grows (m.party d.from) (new d.from) (all.grows d.from) d.to d.packet (h.attested d old o)
           | inr fresh ↦ t d fresh o
         ];
       }
+
+  -- the datagram that an end at a, which is now x, sends
+  pub attested_one : (ends : Endpoint → Party) (a : Endpoint) (x : Party) (to : Endpoint) (k : Packet) →
+      Attests x to k → (d : Message) → Contains (message a to k ∷ []) d → network.host_of d.from ≢ Elsewhere →
+      Attests (with_end ends a x d.from) d.to d.packet
+  attested_one ends a x to k t = search rules
+
+  -- a rule that sends nothing sends nothing untrue
+  pub attested_none : (ends : Endpoint → Party) (d : Message) → Contains [] d → network.host_of d.from ≢ Elsewhere →
+      Attests (ends d.from) d.to d.packet
+  attested_none ends = none_sent (λ d. network.host_of d.from ≢ Elsewhere → Attests (ends d.from) d.to d.packet)

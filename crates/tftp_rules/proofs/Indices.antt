@@ -3,7 +3,7 @@
 use Rattle.tftp_rules.proofs.Common.{◌≡◌, ℕ, List, [], ◌∷◌, ◌++◌, length, set, Some, None, refl, ap, arith, inl, inr}
 use Rattle.tftp_rules.proofs.Common.{◌≢◌, ◌⊎◌, slice_get}
 use Rattle.std.proofs.Common.{zero}
-use Rattle.std.proofs.Common.{suc}
+use Rattle.std.proofs.Common.{suc, rules}
 
 -- the elements of a list after a write
 pub slice_get-set_cases : {X : Type 0} (xs : List X) (i j : ℕ) (a y : X) → slice_get (set xs i a) j ≡ Some y →
@@ -12,10 +12,7 @@ slice_get-set_cases [] i j a y e = absurd (let f : None ≡ Some y = e in cc)
 slice_get-set_cases (x ∷ xs) zero zero a y e = inl (refl, let f : Some a ≡ Some y = e in cc)
 slice_get-set_cases (x ∷ xs) zero (suc j) a y e = inr (let n : suc j ≢ zero = omega arith in n, e)
 slice_get-set_cases (x ∷ xs) (suc i) zero a y e = inr (let n : zero ≢ suc i = omega arith in n, e)
-slice_get-set_cases (x ∷ xs) (suc i) (suc j) a y e = elim (slice_get-set_cases xs i j a y e) [
-  | inl h ↦ inl (ap suc h.0, h.1)
-  | inr h ↦ inr (let m = h.0 in let n : suc j ≢ suc i = omega arith in n, h.1)
-]
+slice_get-set_cases (x ∷ xs) (suc i) (suc j) a y e = search (rules, slice_get-set_cases xs i j a y e)
 
 -- the index that was written has the new element
 pub slice_get-set_same : {X : Type 0} (xs : List X) (i : ℕ) (a x : X) → slice_get xs i ≡ Some x →
@@ -39,10 +36,7 @@ pub slice_get-push_cases : {X : Type 0} (xs : List X) (j : ℕ) (a y : X) → sl
 slice_get-push_cases [] zero a y e = inr (refl, let f : Some a ≡ Some y = e in cc)
 slice_get-push_cases [] (suc j) a y e = absurd (let f : None ≡ Some y = e in cc)
 slice_get-push_cases (x ∷ xs) zero a y e = inl e
-slice_get-push_cases (x ∷ xs) (suc j) a y e = elim (slice_get-push_cases xs j a y e) [
-  | inl h ↦ inl h
-  | inr h ↦ inr (ap suc h.0, h.1)
-]
+slice_get-push_cases (x ∷ xs) (suc j) a y e = search (rules, slice_get-push_cases xs j a y e)
 
 -- an element that was there is there after a push
 pub slice_get-push_old : {X : Type 0} (xs : List X) (j : ℕ) (a y : X) → slice_get xs j ≡ Some y →

@@ -3,9 +3,6 @@ pub mod Endpoints
 pub mod Grows
 pub mod Blocks
 pub mod Steps
-pub mod Attesting
-pub mod Opening
-pub mod Moving
 pub mod Keeps
 pub mod Runs
 pub mod NumbersNear

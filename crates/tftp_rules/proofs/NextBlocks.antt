@@ -1,5 +1,6 @@
 -- The next block of a text: how long it is, and that it can be read.
 -- For StorableBlocks, and for the laws of worlds (tftp_player).
+use Rattle.std.proofs.Common.{rules as std_rules}
 use Rattle.tftp_rules.proofs.Common.{common_steps, ◌≡◌, ℕ, ◌+◌, ◌*◌, ◌-◌, ◌<◌, ◌≤◌, Bool, true, false, List, [], ◌∷◌}
 use Rattle.tftp_rules.proofs.Common.{◌++◌, length, drop, refl, sym, ap, ◌∙◌, subst, arith, inl, rules, ◌⊎◌, ◌&&◌}
 use Rattle.tftp_rules.proofs.Common.{nat_lt, append-nil, Mode, Octet, Netascii, block, block_count, Fits, wire_text}
@@ -48,8 +49,7 @@ piece_readable Netascii file stored held piece rest last e none =
     let whole_is : t ++ rest ≡ netascii_text more.0 =
     drop_front (netascii_text stored) (t ++ rest) (netascii_text more.0) (joined ∙ (ap netascii_text (sym more.1) ∙
     wire_text-append Netascii stored more.0)) in
-    readable_by last (begins_netascii t) (ends_in_cr t) (begins_text t rest more.0 whole_is) (λ l. ends_text t more.0
-    (sym (append-nil t) ∙ (ap (λ (z : List ℕ). t ++ z) (sym (none l)) ∙ whole_is)))
+    search (std_rules, readable_by, begins_text, ends_text, append-nil)
 
 -- ---- how long a block is
 module _ (text : List ℕ) (size : ℕ) (positive : 0 < size) (fits : Fits text size) where

@@ -1,19 +1,18 @@
 -- How far apart the numbers of an end and of its peer are, in every run of the guarded machine.
 -- For the laws of worlds on recovery and on blame (tftp_player).
 use Rattle.tftp_rules.proofs.Common.{◌≡◌, ℕ, ◌+◌, ◌*◌, ◌<◌, ◌≤◌, Bool, true, false, not, List, [], ◌∷◌, length, Some}
-use Rattle.tftp_rules.proofs.Common.{None, sym, refl, ap, ◌∙◌, arith, ◌≢◌, if◌then◌else◌, true≢false, ltb-true}
-use Rattle.tftp_rules.proofs.Common.{cases_eq, same_Some, DEFAULT_BLOCK, block, block_count, IsSoundParty, Holds}
-use Rattle.tftp_rules.proofs.Common.{Endpoint, Elsewhere, Data, Party, Machine, with_end, start, Network, Rule, Asks}
-use Rattle.tftp_rules.proofs.Common.{Opens_plainly, Opens_with, Takes_oack, Takes_ack, Takes_data, Appends, Sends_next}
-use Rattle.tftp_rules.proofs.Common.{Completes, Fails, Fails_with, Fails_to_begin, Says_error, Repeats, Strays, message}
+use Rattle.tftp_rules.proofs.Common.{sym, refl, ap, ◌∙◌, arith, ◌≢◌, if◌then◌else◌, true≢false, ltb-true, cases_eq}
+use Rattle.tftp_rules.proofs.Common.{block, block_count, IsSoundParty, Holds, Endpoint, Elsewhere, Data, Party, Machine}
+use Rattle.tftp_rules.proofs.Common.{start, Network, Rule, Asks, Opens_plainly, Opens_with, Takes_oack, Takes_ack}
+use Rattle.tftp_rules.proofs.Common.{Takes_data, Appends, Sends_next, Completes, Fails_to_begin, message, actor}
 use Rattle.tftp_rules.proofs.Common.{party_after, Guard, after, IsLegal, run}
 use Rattle.std.proofs.Common.{rules as std_rules}
 use Rattle.std.proofs.Math.Nat.{div-lt_iff_lt-mul}
 use Rattle.tftp_rules.proofs.Blocks.{length-block}
-use Rattle.tftp_rules.proofs.Endpoints.{cases_same}
-use Rattle.tftp_rules.proofs.Grows.{Grows, AllGrow, AllGrow-with, with_at, with_other}
+use Rattle.tftp_rules.proofs.Grows.{AllGrow, AllGrow-with, with_each}
 use Rattle.tftp_rules.proofs.Keeps.{keeps}
-use Rattle.tftp_rules.proofs.Steps.{next_block}
+use Rattle.tftp_rules.proofs.RulesGrow.{rule_grows}
+use Rattle.tftp_rules.proofs.Steps.{next_block, of_peer}
 
 -- a block that is shorter than the others is the last one
 short_is_last : (text : List ℕ) (n size : ℕ) → 0 < size → n * size ≤ length text →
@@ -41,37 +40,10 @@ module _ (network : Network) where
       IsSoundParty network ends a x → IsNear ends x → IsNear new x
   near_grows ends new a x all h n = search std_rules
 
-  -- the end at a became x
-  kept_near : (m : Machine) (a : Endpoint) (x : Party) → Holds network m → AreNear m.party →
-      ((m.party a).is_open ≡ true → Grows (m.party a) x) →
-      (x.is_open ≡ true → IsNear (with_end m.party a x) x) → AreNear (with_end m.party a x)
-  kept_near m a x h n g now q o = search (std_rules, cases_same, with_at, with_other, near_grows)
-
-  -- an end whose numbers stay
-  near_still : (m : Machine) (a : Endpoint) (x : Party) → Holds network m → AreNear m.party →
-      (m.party a).is_open ≡ true → (g : Grows (m.party a) x) → x.peer ≡ (m.party a).peer → x.size ≡ (m.party a).size →
-      x.number ≡ (m.party a).number →
-      (x.sender ≡ false → x.complete ≡ (m.party a).complete) →
-      AreNear (with_end m.party a x)
-  near_still m a x h n there g peer size number complete =
-      let old = m.party a in
-      let new = with_end m.party a x in
-      let was = near_grows m.party new a old (AllGrow-with m.party a x (λ _. g)) (h.ends a there) (n a there) in
-      search (std_rules, kept_near)
-
-  -- an end that opens
-  near_opens : (m : Machine) (a : Endpoint) (x : Party) → Holds network m → AreNear m.party →
-      (m.party a).is_open ≡ false → x.number ≤ 1 → (x.sender ≡ false → x.number ≡ 0) → x.complete ≡ false →
-      AreNear (with_end m.party a x)
-  near_opens m a x h n closed few none alive = search std_rules
-
-  -- a waiting client that has a peer now
-  near_takes : (m : Machine) (a peer : Endpoint) (size number : ℕ) (failed : Bool) → Holds network m →
-      AreNear m.party → (m.party a).is_open ≡ true → (m.party a).complete ≡ false → (m.party a).peer ≡ None →
-      number ≤ 1 → ((m.party a).sender ≡ false → number ≡ 0) →
-      AreNear
-      (with_end m.party a (record (m.party a) { peer = Some peer; size = size; number = number; failed = failed }))
-  near_takes m a peer size number failed h n there alive none few first = search std_rules
+  -- an end that has no block but the first
+  near_first : (ends : Endpoint → Party) (x : Party) → x.number ≤ 1 → (x.sender ≡ false → x.number ≡ 0) →
+      x.complete ≡ false → IsNear ends x
+  near_first ends x few none alive = search std_rules
 
   one_or_none : (b : Bool) → (if b then 1 else 0) ≤ 1
   one_or_none true = omega arith
@@ -89,73 +61,65 @@ module _ (network : Network) where
   at_most_one true = omega arith
   at_most_one false = omega arith
 
-  -- no end changed
-  near_same : (m : Machine) (a : Endpoint) → Holds network m → AreNear m.party →
-      AreNear (with_end m.party a (m.party a))
-  near_same m a h n = search (std_rules, kept_near, near_grows)
+  -- all ends go on as a rule acts, and so the acting end is near as it was
+  rule_all : (r : Rule) (m : Machine) → Holds network m → Guard network r m → AllGrow m.party (after network r m).party
+  rule_all r m h g =
+      AllGrow-with m.party (actor r) (party_after r (m.party (actor r))) (rule_grows network r m h g)
+
+  near_old : (r : Rule) (m : Machine) → Holds network m → AreNear m.party → Guard network r m →
+      (m.party (actor r)).is_open ≡ true → IsNear (after network r m).party (m.party (actor r))
+  near_old r m h n g o = search std_rules
+
+  -- the acting end of a rule, after it
+  near_now : (r : Rule) (m : Machine) → Holds network m → AreNear m.party → Guard network r m →
+      (party_after r (m.party (actor r))).is_open ≡ true →
+      IsNear (after network r m).party (party_after r (m.party (actor r)))
+  near_now (Asks at write request text) m h n g o = near_first _ _ (omega arith) (λ _. refl) refl
+  near_now (Opens_plainly at peer write request text) m h n g o =
+      near_first _ _ (at_most_one write) (none_unless write) refl
+  near_now (Opens_with at peer write request text size) m h n g o = near_first _ _ (omega arith) (λ _. refl) refl
+  near_now (Takes_oack at peer size) m h n g o =
+      near_first _ _ (one_or_none (m.party at).sender) (none_if (m.party at).sender) g.0.0.1
+  near_now (Takes_ack at peer) m h n g o =
+      near_first _ _ (one_or_none (m.party at).sender) (none_if (m.party at).sender) g.0.0.1
+  near_now (Takes_data at peer bytes) m h n g o =
+      near_first _ _ (one_or_none (m.party at).sender) (none_if (m.party at).sender) g.0.0.1
+  near_now (Fails_to_begin at peer size) m h n g o =
+      let none = ((h.ends at g.0.0.0).no_peer g.0.2).0 in
+      near_first _ _ (omega (arith, none)) (λ _. none) g.0.0.1
+  near_now (Appends at peer bytes) m h n g o =
+      let old = m.party at in
+      let all = rule_all (Appends at peer bytes) m h g in
+      let new = (after network (Appends at peer bytes) m).party in
+      let said = h.attested (message peer at (Data (old.number + 1) bytes)) g.3 in
+      record {
+        sends = λ s p e own. absurd (true≢false (sym s ∙ g.1));
+        stores = λ s. of_peer network (λ (q : Endpoint). old.number + 1 ≤ (new q).number) old peer g.2 (λ own.
+            let few = (said own).number in
+            let up = (all.grows peer (said own).is_open).number in
+            omega (arith, few, up));
+        whole = λ s d. of_peer network (λ (q : Endpoint). old.number + 1 ≡ block_count (new q).text old.size) old peer
+            g.2 (λ own.
+            let t = said own in
+            let b = next_block _ m h at peer bytes g own in
+            short_is_last _ _ _ b.positive b.room (rw (← b.bytes) (ltb-true (length bytes) old.size d))
+            ∙ ap (λ (z : List ℕ). block_count z old.size) (sym ((all.grows peer t.is_open).text t.sender)));
+      }
+  near_now (Sends_next at peer) m h n g o = search std_rules
+  near_now (Completes at peer) m h n g o =
+      let was = near_old (Completes at peer) m h n g o in
+      record { sends = was.sends; stores = was.stores; whole = λ s d p e own. absurd (true≢false (sym g.0.1 ∙ s)) }
+  near_now r m h n g o =
+      let was = near_old r m h n g o in record { sends = was.sends; stores = was.stores; whole = was.whole }
 
   -- each rule keeps the numbers near
   near_keeps : (r : Rule) (m : Machine) → Holds network m → AreNear m.party → Guard network r m →
       AreNear (after network r m).party
-  near_keeps (Asks at write request text) m h n g = near_opens m at _ h n g.0 (omega arith) (λ _. refl) refl
-  near_keeps (Opens_plainly at peer write request text) m h n g =
-      near_opens m at _ h n g.0 (at_most_one write) (none_unless write) refl
-  near_keeps (Opens_with at peer write request text size) m h n g =
-      near_opens m at _ h n g.0 (omega arith) (λ _. refl) refl
-  near_keeps (Takes_oack at peer size) m h n g =
-      let x = m.party at in
-      near_takes m at peer size (if x.sender then 1 else 0) x.failed h n g.0.0.0 g.0.0.1 g.0.2 (one_or_none x.sender)
-      (none_if x.sender)
-  near_keeps (Takes_ack at peer) m h n g =
-      let x = m.party at in
-      near_takes m at peer DEFAULT_BLOCK (if x.sender then 1 else 0) x.failed h n g.0.0.0 g.0.0.1 g.0.2 (one_or_none
-      x.sender) (none_if x.sender)
-  near_keeps (Takes_data at peer bytes) m h n g =
-      let x = m.party at in
-      near_takes m at peer DEFAULT_BLOCK (if x.sender then 1 else 0) x.failed h n g.0.0.0 g.0.0.1 g.0.2 (one_or_none
-      x.sender) (none_if x.sender)
-  near_keeps (Appends at peer bytes) m h n g =
-      let old = m.party at in
-      let x = party_after (Appends at peer bytes) old in
-      let new = with_end m.party at x in
-      let grow : Grows old x = search std_rules in
-      let all = AllGrow-with m.party at x (λ _. grow) in
-      kept_near m at x h n (λ _. grow) (λ _. record {
-        sends = λ s p e o. absurd (true≢false (sym s ∙ g.1));
-        stores = λ s p e o.
-            let same : peer ≡ p = same_Some peer p (sym g.2 ∙ e) in
-            let own : network.host_of peer ≢ Elsewhere = rw (same) o in
-            let t = h.attested (message peer at (Data (old.number + 1) bytes)) g.3 own in
-            let few = t.number in
-            let up = (all.grows peer t.is_open).number in
-            rw (← same) (omega (arith, few, up));
-        whole = λ s d p e o.
-            let same : peer ≡ p = same_Some peer p (sym g.2 ∙ e) in
-            let own : network.host_of peer ≢ Elsewhere = rw (same) o in
-            let t = h.attested (message peer at (Data (old.number + 1) bytes)) g.3 own in
-            let b = next_block _ m h at peer bytes g own in
-            let short : length bytes < old.size = ltb-true (length bytes) old.size d in
-            let last = short_is_last _ _ _ b.positive b.room (rw (← b.bytes) short) in
-            last ∙ (ap (λ (z : List ℕ). block_count z old.size) (sym ((all.grows peer t.is_open).text t.sender)) ∙
-            ap (λ (z : Endpoint). block_count (new z).text old.size) same);
-      })
-  near_keeps (Sends_next at peer) m h n g = search std_rules
-  near_keeps (Completes at peer) m h n g =
-      let old = m.party at in
-      search std_rules
-  near_keeps (Fails at) m h n g =
-      let old = m.party at in
-      search (std_rules, near_still)
-  near_keeps (Fails_with at peer bytes) m h n g =
-      let old = m.party at in
-      search (std_rules, near_still, true≢false)
-  near_keeps (Fails_to_begin at peer size) m h n g =
-      let old = m.party at in
-      let none = ((h.ends at g.0.0.0).no_peer g.0.2).0 in
-      near_takes m at peer size old.number true h n g.0.0.0 g.0.0.1 g.0.2 (omega (arith, none)) (λ _. none)
-  near_keeps (Says_error at to) m h n g = near_same m at h n
-  near_keeps (Repeats old) m h n g = near_same m old.from h n
-  near_keeps (Strays stray) m h n g = near_same m stray.from h n
+  near_keeps r m h n g =
+      let new = (after network r m).party in
+      with_each (λ (q : Endpoint) (x : Party). IsNear new x) m.party (actor r) (party_after r (m.party (actor r)))
+      (near_now r m h n g)
+      (λ q o. near_grows m.party new q (m.party q) (rule_all r m h g) (h.ends q o) (n q o))
 
   -- so do all of them
   pub near_run : (rules : List Rule) (m : Machine) → Holds network m → AreNear m.party → IsLegal network rules m →

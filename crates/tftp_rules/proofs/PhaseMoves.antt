@@ -1,15 +1,15 @@
 -- An end by its phase: a sender, a receiver, one that dallies. For EndTurns, WaitingMoves and the crates tftp_player
 -- and tftp_promises.
-use Rattle.tftp_rules.proofs.Common.{◌≡◌, ℕ, ◌+◌, ◌<◌, ◌≤◌, Bool, true, false, List, length, Option, Some, None, sym}
-use Rattle.tftp_rules.proofs.Common.{refl, ap, ◌∙◌, arith, rules, ◌==◌, ◌&&◌, if◌then◌else◌, nat_lt, is_some, Contains}
-use Rattle.tftp_rules.proofs.Common.{true≢false, ltb-true, eqb-true, ltb-false, Read, Write, Oack, Spells, Files}
-use Rattle.tftp_rules.proofs.Common.{block_count, Holding, ErrorReply, Outcome, Sending, Receiving, Dallying, Terms}
-use Rattle.tftp_rules.proofs.Common.{Action, Respond, Send, Store, Response, Ignore, WrongPeer, ResendReply, Close}
-use Rattle.tftp_rules.proofs.Common.{Refuse, Complete, outcome_of, receiver_action, next_action, dally_response}
-use Rattle.tftp_rules.proofs.Common.{same_address, sender_action, Turn, Acts, is_readable, Endpoint, Message, Network}
-use Rattle.tftp_rules.proofs.Common.{Rule, message, said, EndView, OpenEnd, files_of, end_after, open_view, with_phase}
-use Rattle.tftp_rules.proofs.Common.{known_source, known_sink, EndKept, Stands, Goes, IsThere}
-use Rattle.std.proofs.Common.{◌/◌}
+use Rattle.tftp_rules.proofs.Common.{◌≡◌, ℕ, ◌+◌, ◌<◌, ◌≤◌, Bool, true, false, List, length, Option, Some, sym, refl}
+use Rattle.tftp_rules.proofs.Common.{ap, ◌∙◌, arith, rules, ◌==◌, ◌&&◌, if◌then◌else◌, nat_lt, is_some, Contains}
+use Rattle.tftp_rules.proofs.Common.{true≢false, ltb-true, eqb-true, ltb-false, Oack, Spells, Files, block_count}
+use Rattle.tftp_rules.proofs.Common.{Holding, ErrorReply, Outcome, Sending, Receiving, Dallying, Terms, Action, Respond}
+use Rattle.tftp_rules.proofs.Common.{Send, Store, Response, Ignore, WrongPeer, ResendReply, Close, Refuse, Complete}
+use Rattle.tftp_rules.proofs.Common.{outcome_of, receiver_action, next_action, dally_response, same_address}
+use Rattle.tftp_rules.proofs.Common.{sender_action, Turn, Acts, is_readable, Endpoint, Message, Network, Rule, message}
+use Rattle.tftp_rules.proofs.Common.{said, EndView, OpenEnd, files_of, end_after, goes_on, open_view, terms_of}
+use Rattle.tftp_rules.proofs.Common.{with_phase, known_source, known_sink, EndKept, Stands, Goes, IsThere}
+use Rattle.std.proofs.Common.{◌/◌, rules as std_rules}
 use Rattle.std.specs.Prelude.{not}
 use Rattle.std.specs.Cmp.Lexicographic.{same_text}
 use Rattle.tftp_wire.specs.declared.packet.Packet.{Packet as WirePacket}
@@ -84,6 +84,18 @@ module _ (network : Network) where
         from_response network first views messages k x ResendReply from turn held
         (answers_again network first views messages k x s kept from open_now same old) h
 
+  module _ (first : List Rule) (views : List EndView) (messages : List Message) (k : ℕ) (x : OpenEnd)
+      (s : Stands network first views messages k (open_view x)) (kept : EndKept network x)
+      (from : Endpoint) (bytes : List ℕ) (going : goes_on x.state.position.phase ≡ true) where
+    pub close_acts : (outcome : Outcome) → Acting first views messages k x from bytes (Respond (Close outcome))
+    close_acts outcome turn held h =
+        from_response network first views messages k x (Close outcome) from turn held
+        (gives_up network first views messages k x s kept outcome from going) h
+
+    pub refuse_acts : (reply : ErrorReply) (outcome : Outcome) →
+        Acting first views messages k x from bytes (Respond (Refuse (terms_of x.state.position.phase) reply outcome))
+    refuse_acts reply outcome turn held h = search (std_rules, from_response, terms_of, refuses_now)
+
   module _ (first : List Rule) (views : List EndView) (messages : List Message) (k : ℕ) (x0 : OpenEnd) (terms : Terms)
       (n : ℕ)
       (s : Stands network first views messages k (open_view (with_phase (Sending terms n) x0)))
@@ -93,11 +105,7 @@ module _ (network : Network) where
     sender = with_phase (Sending terms n) x0
 
     illegal_sender : Acting first views messages k sender from bytes (illegal_action terms)
-    illegal_sender turn held h =
-        from_response network first views messages k sender
-        (Refuse (Some terms) replies.IllegalOperation outcomes.Illegal) from turn held
-        (refuses_now network first views messages k sender s kept replies.IllegalOperation outcomes.Illegal from
-        refl) h
+    illegal_sender = refuse_acts _ _ _ k _ s kept from bytes refl replies.IllegalOperation outcomes.Illegal
 
     -- a sender with an ACK
     acked_acts : (acked : ℕ) → terms.peer ≡ from → Contains messages (message from x0.address (Says_ack acked)) →
@@ -130,8 +138,7 @@ module _ (network : Network) where
         Acting first views messages k sender from bytes (sender_action client x0.state.role.length terms n decoded)
     sender_acts client (Some (Ack acked)) peer come = acked_acts acked peer (come (Ack acked) refl)
     sender_acts client (Some (Error code text)) peer come =
-        λ turn held h. from_response network first views messages k sender (Close (outcomes.PeerError code)) from turn
-        held (gives_up network first views messages k sender s kept (outcomes.PeerError code) from refl) h
+        close_acts first views messages k sender s kept from bytes refl (outcomes.PeerError code)
     sender_acts client (Some (Oack options)) peer come =
         if_acts (Acting first views messages k sender from bytes) (client && terms.by_oack) (Respond Ignore)
         (illegal_action terms)
@@ -150,9 +157,7 @@ module _ (network : Network) where
 
     refuse_receiver : (reply : ErrorReply) (outcome : Outcome) →
         Acting first views messages k receiver from bytes (Respond (Refuse (Some terms) reply outcome))
-    refuse_receiver reply outcome turn held h =
-        from_response network first views messages k receiver (Refuse (Some terms) reply outcome) from turn held
-        (refuses_now network first views messages k receiver s kept reply outcome from refl) h
+    refuse_receiver reply outcome = refuse_acts first views messages k receiver s kept from bytes refl reply outcome
 
     again_receiver : Acting first views messages k receiver from bytes (Respond ResendReply)
     again_receiver = again_acts first views messages k receiver s kept from bytes refl (sym peer ∙ sym kept.phase.1) old
@@ -213,9 +218,7 @@ module _ (network : Network) where
         (receiver_action client x0.state.role.mode x0.state.position.held_back terms n decoded)
     receiver_acts client (Some (Data number piece)) spelled come =
         data_acts _ _ (spelled (Data number piece) refl) (come (Data number piece) refl)
-    receiver_acts client (Some (Error code text)) spelled come =
-        λ turn held h. from_response network first views messages k receiver (Close (outcomes.PeerError code)) from turn
-        held (gives_up network first views messages k receiver s kept (outcomes.PeerError code) from refl) h
+    receiver_acts client (Some (Error code text)) spelled come = search (std_rules, close_acts)
     receiver_acts client (Some (Oack options)) spelled come =
         let P = Acting first views messages k receiver from bytes in
         if_acts P (client && terms.by_oack) (if n == 0 then Respond ResendReply else Respond Ignore) (illegal_action
@@ -239,14 +242,9 @@ module _ (network : Network) where
     -- a receiver that dallies, with any packet
     pub dally_acts : (decoded : Option WirePacket) →
         Acting first views messages k dallier from bytes (Respond (dally_response n decoded))
-    dally_acts None = ignore_dallier
-    dally_acts (Some (Read r)) = ignore_dallier
-    dally_acts (Some (Write r)) = ignore_dallier
     dally_acts (Some (Data number piece)) =
         if_acts (λ (r : Response). Acting first views messages k dallier from bytes (Respond r)) (number == n)
         ResendReply Ignore
         (λ e. again_acts first views messages k dallier s kept from bytes refl (sym peer ∙ sym kept.phase.1) old)
         (λ e. ignore_dallier)
-    dally_acts (Some (Ack acked)) = ignore_dallier
-    dally_acts (Some (Error code text)) = ignore_dallier
-    dally_acts (Some (Oack options)) = ignore_dallier
+    dally_acts decoded = ignore_dallier

@@ -1,5 +1,6 @@
 -- What is shown stays shown after a step, an opening or a datagram. For four functions, Actions, ViewSafe and the
 -- crates tftp_player and tftp_promises.
+use Rattle.std.proofs.Common.{rules as std_rules}
 use Rattle.tftp_rules.proofs.Common.{◌≡◌, ℕ, Bool, true, false, List, [], ◌∷◌, ◌++◌, length, set, Some, sym, refl, ap}
 use Rattle.tftp_rules.proofs.Common.{◌∙◌, subst, inl, inr, rules, ◌≢◌, ◌⊎◌, slice_get, cases_Bool, Endpoint, Message}
 use Rattle.tftp_rules.proofs.Common.{Party, Machine, start, Network, Spells, Holds, Rule, Asks, Opens_plainly}
@@ -16,12 +17,13 @@ use Rattle.tftp_rules.specs.Shows.{party_of, requested, answered_by, HasRequest,
 use Rattle.tftp_rules.specs.Shows.{AreApart, NoneAt}
 use Rattle.tftp_rules.specs.Shows.{IsShown, OpensEnd}
 use Rattle.tftp_rules.specs.Shows.{Speaks, NoneAnswers, AsksUnanswered}
-use Rattle.tftp_rules.proofs.Acting.{Unshown, with_unshown, KeepsOn, act_in_turn}
+use Rattle.tftp_rules.proofs.Acting.{Unshown, with_unshown, act_in_turn}
 use Rattle.tftp_rules.proofs.Endpoints.{cases_same}
-use Rattle.tftp_rules.proofs.Grows.{with_at, with_other}
+use Rattle.tftp_rules.proofs.Grows.{Grows, with_at, with_other}
 use Rattle.tftp_rules.proofs.Indices.{slice_get-set_cases, slice_get-set_same, slice_get-set_other}
 use Rattle.tftp_rules.proofs.Indices.{slice_get-push_cases, slice_get-push_old, slice_get-push_new}
 use Rattle.tftp_rules.proofs.RecordedKept.{recorded_run, recorded_start}
+use Rattle.tftp_rules.proofs.RulesGrow.{run_grows}
 use Rattle.tftp_rules.proofs.Runs.{Holds-start, Holds-run, run_then, legal_then}
 
 -- the view of an end that did not fail has all of its party but `plain` and the request
@@ -52,7 +54,7 @@ apart_push : (views : List EndView) (f : EndView) → NoneAt views f.address →
 apart_push views f none apart j k x y i l same = search (rules, slice_get-push_cases)
 
 -- an end of the server answers the same request while it continues
-same_answer : (x y : Party) → KeepsOn x y → answered_by x ≡ answered_by y
+same_answer : (x y : Party) → Grows x y → answered_by x ≡ answered_by y
 same_answer x y g = search rules
 
 -- an end whose request is shown is one of the server
@@ -61,7 +63,7 @@ serves_by e (inl busy) = busy.0
 serves_by e (inr shown) = shown.0
 
 -- its request was shown before
-had_request : (e f : EndView) (x y : Party) → Matches e x → Matches f y → KeepsOn x y → e.failed ≡ false →
+had_request : (e f : EndView) (x y : Party) → Matches e x → Matches f y → Grows x y → e.failed ≡ false →
     f.request ≡ e.request → HasRequest f → HasRequest e
 had_request e f x y m n g alive same h9 = search rules
 
@@ -89,11 +91,11 @@ all_over views messages m s peer write request none a by =
           let busy : IsInService e = (sym t.client ∙ by.server, sym t.complete ∙ d, sym t.failed ∙ f) in
           let says = s.asked there.0 e there.2 (inl busy) in
           let same : answered_by (m.party e.address) ≡ requested write request = search rules in
-          none there.0 e there.2 (record {
-            serving = busy;
-            peer_is = sym t.peer ∙ by.peer_is;
-            spells = subst (λ (p : WirePacket). Spells p e.request) same says;
-          })
+          none there.0 e there.2 (search (
+            sym t.peer ∙ by.peer_is,
+            subst (λ (p : WirePacket). Spells p e.request) same
+                says,
+          ))
           )
 
 opens_no_duplicate : (views : List EndView) (messages : List Message) (m : Machine) (r : Rule) (bytes : List ℕ) →
@@ -139,11 +141,6 @@ module _ (network : Network) where
       IsShownWithin network (length rs) first vs ms
   shown_after first vs ms before rs legal shows = search (rules, legal_then, run_then)
 
-  -- with no more rules it is still shown
-  pub shown_still : (first : List Rule) (views : List EndView) (messages : List Message) →
-      IsShownAt network first views messages → IsShownWithin network 0 first views messages
-  shown_still first views messages shown = shown_after first views messages shown.0 [] tt shown.1
-
   -- it is shown within a greater number of rules, too
   pub shown_within : (few most : ℕ) (first : List Rule) (views : List EndView) (messages : List Message) → few ≤ most →
       IsShownWithin network few first views messages → IsShownWithin network most first views messages
@@ -162,26 +159,26 @@ module _ (network : Network) where
       let here = s.ends k e at in
       let x = m.party a in
       let acted =
-      act_in_turn network rs a messages m (record { plain = x.plain; request = x.request }) (party_of e) here.is_open
-      (view_is_whole e x here (same_text e x here alive)) (λ d i. (rw (s.sent) i)) turns in
+      act_in_turn _ _ a _ m _ _ here.is_open (view_is_whole e x here (same_text e x here alive)) (λ d i. (rw (s.sent)
+      i)) turns in
       let n = run network rs m in
       let w = acted.1 in
-      let now : Matches f (n.party a) = rw (w.here.1) (match_unshown f w.here.0 (party_then rs (party_of e)) matches) in
+      let grows = (run_grows _ _ m (Holds-run _ _ _ (Holds-start network) shown.0) acted.0).grows a here.is_open in
+      let now : Matches f (n.party a) = rw (w.here.1) (match_unshown f w.here.0 _ matches) in
       let at_new : Matches f (n.party f.address) = rw (← ap n.party (sym same)) now in
       let asked_new : HasRequest f → Spells (answered_by (n.party f.address)) f.request = λ has.
-      (rw (asks) (subst (λ (p : WirePacket). Spells p e.request) (same_answer x (n.party a) w.keeps ∙ ap (λ (q :
-      Endpoint). answered_by (n.party q)) (sym same)) (s.asked k e at (had_request e f x (n.party a) here now w.keeps
-      alive asks has)))) in
+      (rw (asks) (subst (λ (p : WirePacket). Spells p e.request) (same_answer x _ grows ∙ ap (λ (q : Endpoint).
+      answered_by (n.party q)) (sym same)) (s.asked k e at (had_request e f x _ here now grows alive asks has)))) in
       let away : (j : ℕ) (y : EndView) → j ≢ k → slice_get views j ≡ Some y → y.address ≢ a =
       λ j y other i q. other (s.apart j k y e i at q) in
-      shown_after first (set views k f) (messages ++ sent_by network rs (party_of e)) shown.0 rs acted.0 (record {
+      shown_after _ _ _ shown.0 _ acted.0 (record {
         sent = w.sent ∙ ap (λ (ds : List Message). ds ++ sent_by network rs (party_of e)) s.sent;
-        ends = λ j y i. elim (slice_get-set_cases views k j f y i) [
+        ends = λ j y i. elim (slice_get-set_cases _ k j f y i) [
           | inl b ↦ rw (b.1) at_new
           | inr b ↦ rw ((w.others y.address (away j y b.0 b.1))) (s.ends j y b.1)
         ];
         apart = apart_set views k e f at same s.apart;
-        asked = λ j y i. elim (slice_get-set_cases views k j f y i) [
+        asked = λ j y i. elim (slice_get-set_cases _ k j f y i) [
           | inl b ↦
               rw (b.1) asked_new
           | inr b ↦
@@ -191,7 +188,7 @@ module _ (network : Network) where
           | inl q ↦ (k, f, slice_get-set_same views k f e at, same ∙ sym q)
           | inr d ↦ let old = s.only b (rw (← w.others b d) o) in
               let elsewhere : old.0 ≢ k = search rules in
-              (old.0, old.1, slice_get-set_other views k old.0 f elsewhere ∙ old.2, old.3)
+              (old.0, old.1, slice_get-set_other views k _ f elsewhere ∙ old.2, old.3)
         ];
       })
 
@@ -221,14 +218,8 @@ module _ (network : Network) where
               | inl b ↦ subst (λ (z : EndView). Matches z (m.party z.address)) (sym b.1) now
               | inr b ↦ s.ends j y (slice_get-set_other views k j e b.0 ∙ b.1)
             ];
-            apart = apart_as (set views k e) (set views k f) (λ j y i. elim (slice_get-set_cases views k j f y i) [
-              | inl b ↦ (
-                e,
-                ap (slice_get (set views k e)) b.0 ∙ here,
-                sym address ∙ ap (λ (z : EndView). z.address) (sym b.1),
-              )
-              | inr b ↦ (y, slice_get-set_other views k j e b.0 ∙ b.1, refl)
-            ]) s.apart;
+            apart =
+                search (std_rules, apart_as, set, slice_get-set_cases, slice_get, slice_get-set_other);
             asked = λ j y i. elim (slice_get-set_cases views k j f y i) [
               | inl b ↦ λ has. absurd (idle (subst HasRequest b.1 has))
               | inr b ↦ s.asked j y (slice_get-set_other views k j e b.0 ∙ b.1)
@@ -276,15 +267,14 @@ module _ (network : Network) where
           | inl b ↦
               rw ((with_other m.party a (party_after r x) y.address (away j y b))) (s.ends j y b)
           | inr b ↦
-              rw (b.1) (subst (λ (z : Party). Matches f z) (sym here) matches)
+              rw (b.1) (rw (here) matches)
         ];
         apart = apart_push views f none s.apart;
         asked = λ j y i. elim (slice_get-push_cases views j f y i) [
           | inl b ↦
               λ has. (rw ((with_other m.party a (party_after r x) y.address (away j y b))) (s.asked j y b has))
           | inr b ↦
-              rw (b.1) (λ has. subst (λ (z : Party). Spells (answered_by z) f.request) (sym here) (new_answer views f r
-              opening asks matches (serves_by f has)))
+              rw (b.1) (λ has. (rw (here) (new_answer views f r opening asks matches (serves_by f has))))
         ];
         only = λ b o. elim (cases_same b a) [
           | inl q ↦ (length views, f, slice_get-push_new views f, same ∙ sym q)
@@ -314,10 +304,7 @@ module _ (network : Network) where
       let guard : Guard network r m = rw (s.sent) (may_speak r speaking messages x may) in
       let alike = speaks_alike r speaking x in
       let n = after network r m in
-      let stays : (q : Endpoint) → n.party q ≡ m.party q = λ q. elim (cases_same q a) [
-        | inl e ↦ ap n.party e ∙ (with_at m.party a (party_after r x) ∙ (alike.0 ∙ ap m.party (sym e)))
-        | inr d ↦ with_other m.party a (party_after r x) q d
-      ] in
+      let stays : (q : Endpoint) → n.party q ≡ m.party q = search std_rules in
       shown_after first views (messages ++ packets network r nobody) shown.0 (r ∷ []) (
         guard,
         speaks_none r speaking m,

@@ -1,17 +1,17 @@
 -- What each run of the guarded machine keeps: how its ends go on, and where requests are sent.
 -- For the laws of worlds on recovery and on blame (tftp_player).
-use Rattle.tftp_rules.proofs.Common.{◌≡◌, ℕ, ◌≤◌, Bool, true, false, not, List, [], ◌∷◌, ◌++◌, Some, sym, refl, ap, ◌∙◌}
-use Rattle.tftp_rules.proofs.Common.{subst, arith, inl, inr, ◌≢◌, ◌⊎◌, if◌then◌else◌, Contains, true≢false}
-use Rattle.tftp_rules.proofs.Common.{Contains-append_cases, DEFAULT_BLOCK, block, Fits, Holds, Endpoint, Elsewhere}
-use Rattle.tftp_rules.proofs.Common.{Packet, Request, Data, Ack, Error, Message, Party, Machine, with_end, start}
-use Rattle.tftp_rules.proofs.Common.{Network, Rule, Asks, Opens_plainly, Opens_with, Takes_oack, Takes_ack, Takes_data}
-use Rattle.tftp_rules.proofs.Common.{Appends, Sends_next, Completes, Fails, Fails_with, Fails_to_begin, Says_error}
-use Rattle.tftp_rules.proofs.Common.{Repeats, Strays, actor, party_after, Guard, after, IsLegal, run}
+use Rattle.tftp_rules.proofs.Common.{◌≡◌, ℕ, ◌≤◌, Bool, true, false, not, List, [], ◌∷◌, ◌++◌, Some, sym, refl, ◌∙◌}
+use Rattle.tftp_rules.proofs.Common.{arith, inl, inr, ◌≢◌, ◌⊎◌, if◌then◌else◌, Contains, true≢false}
+use Rattle.tftp_rules.proofs.Common.{Contains-append_cases, DEFAULT_BLOCK, Fits, Holds, Endpoint, Elsewhere, Packet}
+use Rattle.tftp_rules.proofs.Common.{Request, Data, Ack, Error, Message, Party, Machine, start, Network, Rule, Asks}
+use Rattle.tftp_rules.proofs.Common.{Opens_plainly, Opens_with, Takes_oack, Takes_ack, Takes_data, Appends, Sends_next}
+use Rattle.tftp_rules.proofs.Common.{Completes, Fails, Fails_with, Fails_to_begin, Says_error, Repeats, Strays, actor}
+use Rattle.tftp_rules.proofs.Common.{party_after, Guard, after, IsLegal, run}
 use Rattle.std.proofs.Common.{rules as std_rules}
+use Rattle.tftp_ends.proofs.RunMoves.{if_either}
 use Rattle.tftp_rules.specs.Machine.{Oack}
 use Rattle.tftp_rules.specs.Rules.{HasText}
-use Rattle.tftp_rules.proofs.Endpoints.{cases_same}
-use Rattle.tftp_rules.proofs.Grows.{Grows, Grows-same, AllGrow, AllGrow-with, with_at, with_other}
+use Rattle.tftp_rules.proofs.Grows.{Grows, Grows-same, AllGrow, AllGrow-with, with_each}
 use Rattle.tftp_rules.proofs.Keeps.{keeps}
 use Rattle.tftp_rules.proofs.Steps.{none_sent, one_sent}
 
@@ -20,7 +20,8 @@ grows_then : (x y z : Party) → Grows x y → Grows y z → Grows x z
 grows_then x y z g h = search std_rules
 
 module _ (network : Network) where
-  rule_grows : (r : Rule) (m : Machine) → Holds network m → Guard network r m → (m.party (actor r)).is_open ≡ true →
+  -- so does the acting end of a rule
+  pub rule_grows : (r : Rule) (m : Machine) → Holds network m → Guard network r m → (m.party (actor r)).is_open ≡ true →
       Grows (m.party (actor r)) (party_after r (m.party (actor r)))
   rule_grows r m h g o = search std_rules
 
@@ -66,33 +67,24 @@ module _ (network : Network) where
   one_goes : (a : Message) → Goes a → GoToPort (a ∷ [])
   one_goes a h d i own is = one_sent Goes a h d i own is
 
-  no_request_if : (b : Bool) (one two : Packet) → (IsRequest one → ⊥) → (IsRequest two → ⊥) →
-      IsRequest (if b then one else two) → ⊥
-  no_request_if true one two h k is = h is
-  no_request_if false one two h k is = k is
-
   rule_goes : (r : Rule) (m : Machine) → GoToPort m.sent → Guard network r m → GoToPort (after network r m).sent
   rule_goes (Asks at write request text) m h g =
       more_go m.sent _ h (one_goes _ (λ own is. refl))
   rule_goes (Opens_plainly at peer write request text) m h g =
       more_go m.sent _ h
-      (one_goes _ (λ own is. absurd (no_request_if write (Ack 0) (Data 1 (block text DEFAULT_BLOCK 1)) (λ z. z) (λ z. z) is)))
+      (one_goes _ (λ own is. absurd (if_either (λ (k : Packet). IsRequest k → ⊥) write _ _ (λ _ z. z) (λ _ z. z) is)))
   rule_goes (Opens_with at peer write request text size) m h g = more_go m.sent _ h (one_goes _ (λ own is. absurd is))
   rule_goes (Takes_oack at peer size) m h g =
       let x = m.party at in
       more_go m.sent _ h
-      (one_goes _ (λ own is. absurd (no_request_if x.sender (Data 1 (block x.text size 1)) (Ack 0) (λ z. z) (λ z. z) is)))
+      (one_goes _ (λ own is. absurd (if_either (λ (k : Packet). IsRequest k → ⊥) x.sender _ _ (λ _ z. z) (λ _ z. z) is)))
   rule_goes (Takes_ack at peer) m h g = more_go m.sent _ h (one_goes _ (λ own is. absurd is))
-  rule_goes (Takes_data at peer bytes) m h g = more_go m.sent [] h none_go
   rule_goes (Appends at peer bytes) m h g = more_go m.sent _ h (one_goes _ (λ own is. absurd is))
   rule_goes (Sends_next at peer) m h g = more_go m.sent _ h (one_goes _ (λ own is. absurd is))
-  rule_goes (Completes at peer) m h g = more_go m.sent [] h none_go
-  rule_goes (Fails at) m h g = more_go m.sent [] h none_go
-  rule_goes (Fails_with at peer bytes) m h g = more_go m.sent [] h none_go
-  rule_goes (Fails_to_begin at peer size) m h g = more_go m.sent [] h none_go
   rule_goes (Says_error at to) m h g = more_go m.sent _ h (one_goes _ (λ own is. absurd is))
   rule_goes (Repeats old) m h g = more_go m.sent _ h (one_goes old (λ own is. h old g own is))
   rule_goes (Strays stray) m h g = more_go m.sent _ h (one_goes stray (λ own is. absurd (own g)))
+  rule_goes r m h g = more_go m.sent [] h none_go
 
   -- rules keep that
   pub run_goes : (rules : List Rule) (m : Machine) → GoToPort m.sent → IsLegal network rules m →
@@ -114,50 +106,37 @@ module _ (network : Network) where
   abbrev pub AreFit : (Endpoint → Party) → Type 0
   AreFit ends = (a : Endpoint) → (ends a).is_open ≡ true → FitsOnce (ends a)
 
-  kept_fit : (ends : Endpoint → Party) (a : Endpoint) (x : Party) → AreFit ends → (x.is_open ≡ true → FitsOnce x) →
-      AreFit (with_end ends a x)
-  kept_fit ends a x f now q o = elim (cases_same q a) [
-    | inl e ↦ let is : with_end ends a x q ≡ x = ap (with_end ends a x) e ∙ with_at ends a x in
-        subst FitsOnce (sym is) (now (subst (λ (z : Party). z.is_open ≡ true) is o))
-    | inr d ↦ let is : with_end ends a x q ≡ ends q = with_other ends a x q d in
-        subst FitsOnce (sym is) (f q (subst (λ (z : Party). z.is_open ≡ true) is o))
-  ]
-
   has_fit : (write : Bool) (text : List ℕ) (size : ℕ) → HasText write text size → not write ≡ true → Fits text size
   has_fit true text size h s = absurd (true≢false (sym s))
   has_fit false text size h s = h
 
-  rule_fit : (r : Rule) (m : Machine) → Holds network m → AreFit m.party → Guard network r m →
-      AreFit (after network r m).party
-  rule_fit (Asks at write request text) m h f g = kept_fit m.party at _ f (λ _ s p e. absurd (let z = e in cc))
-  rule_fit (Opens_plainly at peer write request text) m h f g =
-      kept_fit m.party at _ f (λ _ s p e l. has_fit write text DEFAULT_BLOCK g.3 s)
-  rule_fit (Opens_with at peer write request text size) m h f g =
-      kept_fit m.party at _ f (λ _ s p e l. has_fit write text size g.3 s)
-  rule_fit (Takes_oack at peer size) m h f g = kept_fit m.party at _ f (λ _ s p e l. g.2 s)
-  rule_fit (Takes_ack at peer) m h f g = kept_fit m.party at _ f (λ _ s p e l. g.3)
-  rule_fit (Takes_data at peer bytes) m h f g = kept_fit m.party at _ f (λ _ s p e l. absurd (true≢false (sym s ∙ g.1)))
-  rule_fit (Appends at peer bytes) m h f g = kept_fit m.party at _ f (λ _ s p e l. absurd (true≢false (sym s ∙ g.1)))
-  rule_fit (Sends_next at peer) m h f g = kept_fit m.party at _ f (λ o s p e l. f at g.0.0.0 s p e (inl g.0.0.2))
-  rule_fit (Completes at peer) m h f g = kept_fit m.party at _ f (λ o s p e l. f at g.0.0.0 s p e (inl g.0.0.2))
-  rule_fit (Fails at) m h f g = kept_fit m.party at _ f (λ o s p e l. f at g.0 s p e (inl g.2))
-  rule_fit (Fails_with at peer bytes) m h f g = kept_fit m.party at _ f (λ _ s p e l. absurd (true≢false (sym s ∙ g.1)))
-  rule_fit (Fails_to_begin at peer size) m h f g =
-      let none = ((h.ends at g.0.0.0).no_peer g.0.2).0 in
-      kept_fit m.party at _ f (λ _ s p e l. elim l [
-        | inl z ↦ absurd (true≢false z)
-        | inr z ↦ absurd (let c = z in omega (arith, c, none))
-      ])
-  rule_fit (Says_error at to) m h f g = kept_fit m.party at _ f (λ o. f at o)
-  rule_fit (Repeats old) m h f g = kept_fit m.party old.from _ f (λ o. f old.from o)
-  rule_fit (Strays stray) m h f g = kept_fit m.party stray.from _ f (λ o. f stray.from o)
+  -- the acting end of a rule, after it
+  fit_now : (r : Rule) (m : Machine) → Holds network m → AreFit m.party → Guard network r m →
+      (party_after r (m.party (actor r))).is_open ≡ true → FitsOnce (party_after r (m.party (actor r)))
+  fit_now (Asks at write request text) m h f g o s p e l = absurd (let z = e in cc)
+  fit_now (Opens_plainly at peer write request text) m h f g o s p e l = has_fit write text DEFAULT_BLOCK g.3 s
+  fit_now (Opens_with at peer write request text size) m h f g o s p e l = has_fit write text size g.3 s
+  fit_now (Takes_oack at peer size) m h f g o s p e l = g.2 s
+  fit_now (Takes_ack at peer) m h f g o s p e l = g.3
+  fit_now (Takes_data at peer bytes) m h f g o s p e l = absurd (true≢false (sym s ∙ g.1))
+  fit_now (Appends at peer bytes) m h f g o s p e l = absurd (true≢false (sym s ∙ g.1))
+  fit_now (Sends_next at peer) m h f g o s p e l = f at g.0.0.0 s p e (inl g.0.0.2)
+  fit_now (Completes at peer) m h f g o s p e l = f at g.0.0.0 s p e (inl g.0.0.2)
+  fit_now (Fails at) m h f g o s p e l = f at g.0 s p e (inl g.2)
+  fit_now (Fails_with at peer bytes) m h f g o s p e l = absurd (true≢false (sym s ∙ g.1))
+  fit_now (Fails_to_begin at peer size) m h f g o s p e (inl z) = absurd (true≢false z)
+  fit_now (Fails_to_begin at peer size) m h f g o s p e (inr z) =
+      let none = ((h.ends at g.0.0.0).no_peer g.0.2).0 in absurd (let c = z in omega (arith, c, none))
+  fit_now r m h f g o s p e l = f (actor r) o s p e l
 
   -- rules keep that
   pub run_fit : (rules : List Rule) (m : Machine) → Holds network m → AreFit m.party → IsLegal network rules m →
       AreFit (run network rules m).party
   run_fit [] m h f g = f
   run_fit (r ∷ rules) m h f g =
-      run_fit rules (after network r m) (keeps network r m h g.0) (rule_fit r m h f g.0) g.2
+      run_fit rules (after network r m) (keeps network r m h g.0)
+      (with_each (λ (q : Endpoint) (x : Party). FitsOnce x) m.party (actor r) (party_after r (m.party (actor r)))
+      (fit_now r m h f g.0) f) g.2
 
   -- no end is open at the start
   pub start_fit : AreFit start.party

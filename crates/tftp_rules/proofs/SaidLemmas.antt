@@ -1,11 +1,11 @@
 -- What the bytes of a datagram say: one packet at most, and a valid packet what it spells. For eight other files and
 -- the crates tftp_player and tftp_promises.
 use Rattle.tftp_rules.proofs.Common.{◌≡◌, ℕ, ◌^◌, ◌<◌, Bool, true, false, List, [], ◌∷◌, ◌++◌, Option, Some, Result, Ok}
-use Rattle.tftp_rules.proofs.Common.{Err, sym, refl, ap, ◌∙◌, arith, drop, rules, AllByRecursion, Mode, RawOption}
-use Rattle.tftp_rules.proofs.Common.{Spells, IsValid, canonical, Asked, Kind, Known, Refusal, size, agreement, Decodes}
+use Rattle.tftp_rules.proofs.Common.{Err, refl, ap, ◌∙◌, arith, drop, rules, AllByRecursion, Mode, RawOption, Spells}
+use Rattle.tftp_rules.proofs.Common.{IsValid, canonical, Asked, Kind, Known, Refusal, size, agreement, Decodes}
 use Rattle.tftp_rules.proofs.Common.{oack_size}
 use Rattle.std.proofs.Common.{cond}
-use Rattle.std.proofs.Common.{decimal}
+use Rattle.std.proofs.Common.{decimal, rules as std_rules}
 use Rattle.std.specs.Prelude.{option_to_list}
 use Rattle.std.specs.Str.{str_to_ascii_lowercase}
 use Rattle.tftp_wire.specs.declared.packet.Packet.{Packet as WirePacket}
@@ -87,8 +87,7 @@ each_stated asked kind mode limit (o ∷ options) ks e =
     let one : j.0 ≡ stated_as (name_of o.name) (number_of o.value) =
     taken_stated asked kind mode limit (name_of o.name) (number_of o.value) j.0 j.2 in
     let others = each_stated asked kind mode limit options j.1 j.3 in
-    ap (λ (v : Option Known). option_to_list v ++ stated_options options) (sym one) ∙ (ap (λ (rest : List Known).
-    option_to_list j.0 ++ rest) others ∙ sym j.4)
+    search std_rules
 
 -- options that are agreed were not refused as repeated
 pub negotiated_each : (b : Bool) (r : Result (List Known) Refusal) (ks : List Known) → cond b (Err Repeated) r ≡ Ok ks →

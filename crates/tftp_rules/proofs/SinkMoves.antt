@@ -1,5 +1,6 @@
 -- A receiver whose sink stores a block or commits. For BlamelessActions, PhaseMoves, WaitingMoves and the crate
 -- tftp_player.
+use Rattle.std.proofs.Common.{rules as std_rules}
 use Rattle.tftp_rules.proofs.Common.{◌≡◌, ℕ, ◌^◌, ◌<◌, Bool, true, false, List, [], ◌∷◌, ◌++◌, length, set, Some}
 use Rattle.tftp_rules.proofs.Common.{Result, Ok, Err, sym, refl, ap, ◌∙◌, subst, inl, inr, append_assoc, rules, ◌&&◌}
 use Rattle.tftp_rules.proofs.Common.{if◌then◌else◌, nat_lt, true≢false, cases_Bool, append-nil, same_Some, Mode, Octet}
@@ -61,12 +62,9 @@ took_armed true before after bytes answer h =
     subst (λ (a : Result Done StoreFault). Took before after bytes a) (sym h.answer)
     (took_none before after (disarmed before) bytes faults.Full (same_Some after (disarmed before) h.leaves) refl refl)
 took_armed false before after bytes (Ok done) h = search rules
-took_armed false before after bytes (Err faults.Missing) h = took_prefix before after bytes faults.Missing h
-took_armed false before after bytes (Err faults.Exists) h = took_prefix before after bytes faults.Exists h
-took_armed false before after bytes (Err faults.Full) h = took_prefix before after bytes faults.Full h
-took_armed false before after bytes (Err faults.Io) h = took_prefix before after bytes faults.Io h
 took_armed false before after bytes (Err faults.Memory) h =
     took_none before after before bytes faults.Memory (same_Some after before h) refl refl
+took_armed false before after bytes (Err fault) h = took_prefix before after bytes fault h
 
 -- a sink of known content
 pub took : (sinks : SinkMeaning Holding) → ((holding : Holding) → sinks.held holding ≡ Some holding) →
@@ -256,8 +254,7 @@ module _ (network : Network) where
         let y = end_after x turn (Sink sink) in
         let text : wire_text x.state.role.mode (x.stored ++ more) ++ after ≡ text_of_end y = search rules
         in
-        stored_goes (Receiving terms number) sink more after d (acknowledged more after d (text_of_end y) text false
-        last) (r.receiver, r.peer) un
+        search (std_rules, stored_goes, acknowledged, false)
 
     whole_goes : Readable x terms piece → (sink : Holding) (more after : List ℕ) → sink.bytes ≡ x.stored ++ more →
         sink.committed ≡ true → Decoded x.state.role.mode x.state.position.held_back piece more after →
@@ -267,8 +264,7 @@ module _ (network : Network) where
     whole_goes readable sink more after bytes done d last =
         let turn = sent_turn (Dallying terms number Fresh) from (ack_bytes number) (holding after x.state) in
         let y = end_after x turn (Sink sink) in
-        let none : after ≡ [] = none_held x.state.role.mode x.state.position.held_back piece more after kept.held_back d
-        (subst (λ (b : Bool). is_readable x.state.role.mode x.state.position.held_back piece b ≡ true) last readable) in
+        let none : after ≡ [] = search (std_rules, none_held, is_readable, true) in
         let text : wire_text x.state.role.mode (x.stored ++ more) ++ after ≡ text_of_end y = search rules
         in
         stored_goes (Dallying terms number Fresh) sink more after d (acknowledged more after d (text_of_end y) text true

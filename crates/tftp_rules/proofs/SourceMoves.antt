@@ -1,16 +1,17 @@
 -- A sender whose source gives the next block. For BlamelessTurns, PhaseMoves, WaitingMoves and the crates tftp_player
 -- and tftp_promises.
+use Rattle.std.proofs.lemmas.Grind.{common_steps}
 use Rattle.tftp_rules.proofs.Common.{◌≡◌, ℕ, ◌+◌, ◌*◌, ◌-◌, ◌^◌, ◌<◌, ◌≤◌, Bool, true, false, List, [], ◌∷◌, length}
-use Rattle.tftp_rules.proofs.Common.{take, drop, Some, Result, Ok, Err, sym, refl, ap, ◌∙◌, subst, arith, inl, inr}
-use Rattle.tftp_rules.proofs.Common.{rules, ◌≢◌, ◌⊎◌, if◌then◌else◌, Contains, true≢false, eq-eqb, length-take}
-use Rattle.tftp_rules.proofs.Common.{same_Some, MAX_BLOCK, IsValid, SourceMeaning, Files, Source, Sink, block}
-use Rattle.tftp_rules.proofs.Common.{block_count, Fits, Holding, SinkMeaning, Sending, Terms, Complete, EndState}
-use Rattle.tftp_rules.proofs.Common.{is_sender, Turn, response_turn, SendsFrom, sent_turn, refused_turn, block_length}
-use Rattle.tftp_rules.proofs.Common.{after_turn, with_position, Endpoint, Message, Network, Rule, message, said}
-use Rattle.tftp_rules.proofs.Common.{EndView, OpenEnd, files_of, in_state, end_after, open_view, with_phase}
-use Rattle.tftp_rules.proofs.Common.{known_source, known_sink, EndKept, Stands, Goes}
-use Rattle.std.proofs.Common.{min}
-use Rattle.std.proofs.lemmas.List.{length-drop, take_min, drop_min, drop-drop}
+use Rattle.tftp_rules.proofs.Common.{drop, Some, Result, Ok, Err, sym, refl, ap, ◌∙◌, subst, arith, inl, inr, rules}
+use Rattle.tftp_rules.proofs.Common.{◌≢◌, ◌⊎◌, if◌then◌else◌, Contains, true≢false, eq-eqb, length-take, same_Some}
+use Rattle.tftp_rules.proofs.Common.{MAX_BLOCK, IsValid, SourceMeaning, Files, Source, Sink, block, block_count, Fits}
+use Rattle.tftp_rules.proofs.Common.{Holding, SinkMeaning, Sending, Terms, Complete, EndState, is_sender, Turn}
+use Rattle.tftp_rules.proofs.Common.{response_turn, SendsFrom, sent_turn, refused_turn, block_length, after_turn}
+use Rattle.tftp_rules.proofs.Common.{with_position, Endpoint, Message, Network, Rule, message, said, EndView, OpenEnd}
+use Rattle.tftp_rules.proofs.Common.{files_of, in_state, end_after, open_view, with_phase, known_source, known_sink}
+use Rattle.tftp_rules.proofs.Common.{EndKept, Stands, Goes}
+use Rattle.std.proofs.Common.{min, arith as std_arith}
+use Rattle.std.proofs.lemmas.List.{length-drop, drop_min, drop-drop}
 use Rattle.tftp_wire.specs.declared.packet.Packet.TheVariants.{Data}
 use Rattle.tftp_file.specs.declared.fault.FileFault.{FileFault}
 use Rattle.tftp_file.specs.Source.{Fills}
@@ -42,9 +43,6 @@ requested_end terms n e text left measured remaining_is = search (rules, length-
 
 whole_count : (size l : ℕ) → min (min size l) l ≡ min size l
 whole_count size l = omega arith
-
-block_next : (text left : List ℕ) (size n : ℕ) → left ≡ drop (n * size) text → take size left ≡ block text size (n + 1)
-block_next text left size n remaining_is = search rules
 
 left_next : (text left : List ℕ) (size n : ℕ) → left ≡ drop (n * size) text →
     drop size left ≡ drop ((n + 1) * size) text
@@ -90,9 +88,7 @@ block_sent sources known terms n from e text left turn left' measured remaining_
           let turns =
           filled terms (n + 1) from h.piece e (Ok k) (counted (block_length e.role.length terms.size (n + 1)) k
           (count ∙ sym want)) in
-          let piece : h.piece ≡ block text terms.size (n + 1) =
-          f.given ∙ (ap (λ (j : ℕ). take j left) count
-          ∙ (take_min terms.size left ∙ block_next text left terms.size n remaining_is)) in
+          let piece : h.piece ≡ block text terms.size (n + 1) = grind (std_arith, common_steps) in
           let rest : left' ≡ drop k left = same_Some left' (drop k left) f.rest in
           inl (search (
             a ∙ (turns ∙ ap (λ (p : List ℕ). sent_turn (Sending terms (n + 1)) from (data_bytes (n + 1) p)
@@ -182,6 +178,10 @@ module _ (network : Network) where
       (n : ℕ)
       (s : Stands network first views messages k (open_view (with_phase (Sending terms n) x0)))
       (kept : EndKept network (with_phase (Sending terms n) x0)) where
+    -- what it sends is shown
+    text_is : text_of_end (with_phase (Sending terms n) x0) ≡ x0.text
+    text_is = text_if (is_sender x0.state.role.side) x0.text _ kept.phase.sender
+
     -- the next block is sent
     pub sends_next : (from : Endpoint) → terms.peer ≡ from → Contains messages (message from x0.address (Says_ack n)) →
         n < block_count x0.text terms.size →
@@ -192,19 +192,16 @@ module _ (network : Network) where
         let x = with_phase (Sending terms n) x0 in
         let u = kept.phase in
         let text = x.text in
-        let text_is : text_of_end x ≡ text =
-        text_if (is_sender x.state.role.side) text (received_text x.state x.stored) u.sender in
         let l : n + 1 ≤ block_count text terms.size = omega arith in
         let packet = Data (n + 1) (block text terms.size (n + 1)) in
         let room : n < block_count (text_of_end x) terms.size =
         subst (λ (t : List ℕ). n < block_count t terms.size) (sym text_is) more in
-        let shown_now =
-        sends network first views messages k (open_view x) s from (refl, refl) u.sender (ap Some peer) acked room in
+        let shown_now = sends _ _ _ _ k _ s _ (refl, refl) u.sender (ap Some peer) acked room in
         record {
           said_now = message x.address from (said packet) ∷ [];
-          shown = search rules;
-          replies = (packet, spells_own packet (valid_data text terms.size n u.positive u.size u.fits l), refl);
-          kept = data_kept x terms n from kept u.measured u.sender u.positive u.size u.fits l (sym peer);
+          shown = search (rules, text_is);
+          replies = (packet, spells_own _ (valid_data _ _ n u.positive u.size u.fits l), refl);
+          kept = data_kept x _ n _ kept u.measured u.sender u.positive u.size u.fits l (sym peer);
           side = refl;
           last_sent = inr refl;
           stored = λ _. refl;
@@ -221,14 +218,11 @@ module _ (network : Network) where
         let x = with_phase (Sending terms n) x0 in
         let u = kept.phase in
         let text = x.text in
-        let text_is : text_of_end x ≡ text =
-        text_if (is_sender x.state.role.side) text (received_text x.state x.stored) u.sender in
-        let whole : n ≡ block_count (text_of_end x) terms.size =
-        subst (λ (t : List ℕ). n ≡ block_count t terms.size) (sym text_is) last in
+        let whole = subst (λ (t : List ℕ). n ≡ block_count t terms.size) (sym text_is) last in
         let shown_now =
         completes network first views messages k (open_view x) s from (refl, refl) u.sender (ap Some peer) acked whole
         in
         let y = in_state (with_position (after Complete from x.state) x.state) x in
-        let still : text_of_end x ≡ text_of_end y =
+        let still =
         text_is ∙ sym (text_if (is_sender x.state.role.side) text (received_text y.state y.stored) u.sender) in
         search rules

@@ -1,5 +1,6 @@
 -- Small facts on rules: whose datagram one is, and the hosts. For 13 other files and the crates tftp_player and
 -- tftp_promises.
+use Rattle.std.proofs.Common.{rules as std_rules}
 use Rattle.tftp_rules.proofs.Common.{◌≡◌, ℕ, ◌+◌, ◌*◌, ◌<◌, ◌≤◌, Bool, true, false, not, List, [], ◌∷◌, length, take}
 use Rattle.tftp_rules.proofs.Common.{Some, None, sym, refl, ap, ◌∙◌, arith, rules, ◌≢◌, Contains, true≢false, block}
 use Rattle.tftp_rules.proofs.Common.{Endpoint, At_server, At_client, Elsewhere, Message, Party, Machine, Network}
@@ -21,16 +22,10 @@ none_sent P d c = absurd (let h : c.0 < 0 = c.1 in omega arith)
 pub one_sent : (P : Message → Type 0) (a : Message) → P a → (d : Message) → Contains (a ∷ []) d → P d
 one_sent P a p d c = search rules
 
--- x became y, which differs only in the number, the text and how it ended
-pub record Moves (x y : Party) : Type 0 where
-  pub is_open : y.is_open ≡ x.is_open
-  pub client : y.client ≡ x.client
-  pub sender : y.sender ≡ x.sender
-  pub plain : y.plain ≡ x.plain
-  pub mode : y.mode ≡ x.mode
-  pub request : y.request ≡ x.request
-  pub peer : y.peer ≡ x.peer
-  pub size : y.size ≡ x.size
+-- x, with another number and text, and how it ended
+abbrev pub moved : Party → ℕ → Bool → Bool → List ℕ → Party
+moved x number complete failed text =
+    record x { number = number; complete = complete; failed = failed; text = text }
 
 -- an end without blocks has received a beginning of any text
 pub received_nothing : (x y : Party) → x.text ≡ [] → x.number ≡ 0 → x.complete ≡ false → HasReceived x y
@@ -81,18 +76,23 @@ module _ (network : Network) where
   same_size m h x y e = search rules
 
   -- an end that moves is consistent if its peer and its blocks are as the phase says
-  pub IsSound-moves : (ends : Endpoint → Party) (a : Endpoint) (x y : Party) → Moves x y →
-      IsSoundParty network ends a x →
-      (y.peer ≡ None → (y.number ≡ 0) × (y.complete ≡ false) × (y.sender ≡ false → y.text ≡ [])) →
-      (y.client ≡ false → y.sender ≡ true → y.plain ≡ false → 1 ≤ y.number → (p : Endpoint) → y.peer ≡ Some p →
+  pub IsSound-moves : (ends : Endpoint → Party) (a : Endpoint) (x : Party) (number : ℕ) (complete failed : Bool)
+      (text : List ℕ) → IsSoundParty network ends a x →
+      (x.peer ≡ None → (number ≡ 0) × (complete ≡ false) × (x.sender ≡ false → text ≡ [])) →
+      (x.client ≡ false → x.sender ≡ true → x.plain ≡ false → 1 ≤ number → (p : Endpoint) → x.peer ≡ Some p →
       network.host_of p ≢ Elsewhere → (ends p).peer ≡ Some a) →
-      (y.sender ≡ false → (p : Endpoint) → y.peer ≡ Some p → network.host_of p ≢ Elsewhere → HasReceived y (ends p)) →
-      (y.complete ≡ true → (p : Endpoint) → y.peer ≡ Some p → network.host_of p ≢ Elsewhere →
-      (ends p).peer ≡ Some a) →
-      (y.sender ≡ true → y.complete ≡ true → (p : Endpoint) → y.peer ≡ Some p → network.host_of p ≢ Elsewhere →
-      (ends p).complete ≡ true) →
-      IsSoundParty network ends a y
-  IsSound-moves ends a x y v h n b r u d = search rules
+      (x.sender ≡ false → (p : Endpoint) → x.peer ≡ Some p → network.host_of p ≢ Elsewhere →
+      HasReceived (moved x number complete failed text) (ends p)) →
+      (complete ≡ true → (p : Endpoint) → x.peer ≡ Some p → network.host_of p ≢ Elsewhere → (ends p).peer ≡ Some a) →
+      (x.sender ≡ true → complete ≡ true → (p : Endpoint) → x.peer ≡ Some p → network.host_of p ≢ Elsewhere →
+      (ends p).complete ≡ true) → IsSoundParty network ends a (moved x number complete failed text)
+  IsSound-moves ends a x number complete failed text h n b r u d = search rules
+
+  -- what holds of the peer that an end has, if it is no stranger
+  pub of_peer : (P : Endpoint → Type 0) (x : Party) (peer : Endpoint) → x.peer ≡ Some peer →
+      (network.host_of peer ≢ Elsewhere → P peer) → (p : Endpoint) → x.peer ≡ Some p → network.host_of p ≢ Elsewhere →
+      P p
+  of_peer P x peer is h p e own = search std_rules
 
   -- a DATA of its peer with the next number carries the next block of its peer's text
   pub next_block : (m : Machine) → Holds network m → (at peer : Endpoint) (bytes : List ℕ) →

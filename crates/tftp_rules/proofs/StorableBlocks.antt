@@ -1,12 +1,13 @@
 -- The next block of a text is stored: it is short enough, not the last but one, and readable.
 -- For BlamelessActions.
+use Rattle.std.proofs.Common.{rules as std_rules}
 use Rattle.tftp_rules.proofs.Common.{◌≡◌, ℕ, ◌+◌, ◌*◌, ◌<◌, ◌≤◌, Bool, true, false, not, List, ◌++◌, length, take, drop}
-use Rattle.tftp_rules.proofs.Common.{Some, refl, sym, ap, ◌∙◌, arith, inl, inr, rules, ◌≢◌, ◌==◌, nat_lt, ◌&&◌}
-use Rattle.tftp_rules.proofs.Common.{true≢false, eq-eqb, Mode, block, block_count, Fits, wire_text, Terms}
-use Rattle.tftp_rules.proofs.Common.{is_wrong_peer, is_readable, Endpoint}
+use Rattle.tftp_rules.proofs.Common.{Some, refl, sym, ap, ◌∙◌, arith, rules, ◌≢◌, ◌==◌, nat_lt, ◌&&◌, true≢false}
+use Rattle.tftp_rules.proofs.Common.{eq-eqb, Mode, block, block_count, Fits, wire_text, Terms, is_wrong_peer}
+use Rattle.tftp_rules.proofs.Common.{is_readable, Endpoint}
 use Rattle.std.proofs.lemmas.List.{take-append-drop}
-use Rattle.tftp_rules.proofs.Blocks.{count_is_past, take-block}
-use Rattle.tftp_rules.proofs.NextBlocks.{less, piece_readable, block_within, never_long, last_rest}
+use Rattle.tftp_rules.proofs.Blocks.{take-block}
+use Rattle.tftp_rules.proofs.NextBlocks.{piece_readable, block_within, never_long, last_rest}
 
 -- ---- small facts
 -- the parts of a true conjunction are true
@@ -54,10 +55,7 @@ pub storable : (IsText : Type 0) (mode : Mode) (stored held text : List ℕ) (si
     wire_text mode stored ++ held ≡ take (n * size) text → n * size ≤ length text → piece ≡ block text size (n + 1) →
     IsStorable IsText mode held size (n + 1) piece
 storable IsText mode stored held text size n piece positive fits file received room piece_is =
-    let more : n < block_count text size = elim (less (block_count text size) n) [
-      | inl h ↦ h
-      | inr h ↦ absurd (let past = count_is_past text n size positive h in omega (arith, past, room))
-    ] in
+    let more : n < block_count text size = search std_rules in
     let l : n + 1 ≤ block_count text size = omega (arith, more) in
     let own = block text size (n + 1) in
     let rest = drop ((n + 1) * size) text in

@@ -2,8 +2,8 @@
 -- For PlainPeers, and for the laws of worlds on blame (tftp_player).
 use Rattle.tftp_rules.proofs.Common.{◌≡◌, ℕ, Bool, false, List, Option, Some, None, subst, rules, same_Some, Known}
 use Rattle.tftp_rules.proofs.Common.{Holding, SinkMeaning, SourceMeaning, Files, Action, Respond, Send, Store, Response}
-use Rattle.tftp_rules.proofs.Common.{Refuse, Accept, Terms, EndState, terms_of, Decodes, is_wrong_peer, datagram_action}
-use Rattle.tftp_rules.proofs.Common.{Turn, response_turn, timeout_turn, default_terms, agreed_terms, Endpoint}
+use Rattle.tftp_rules.proofs.Common.{Refuse, Accept, Terms, EndState, terms_of, Decodes, is_wrong_peer, Turn}
+use Rattle.tftp_rules.proofs.Common.{response_turn, timeout_turn, default_terms, agreed_terms, Endpoint}
 use Rattle.tftp_wire.specs.declared.packet.Packet.{Packet}
 use Rattle.tftp_ends.specs.End.{Position}
 use Rattle.tftp_ends.specs.Step.{DatagramStep}
@@ -72,6 +72,5 @@ module _ (P : Terms → Type 0) where
         terms_of e.position.phase ≡ None → IsPlainAnswer decoded → P (default_terms from)) →
         DatagramStep sources sinks from bytes e files turn files' → Has turn.position
     step_are files files' turn h agreed plain d =
-        let action = datagram_action e from bytes d.decoded in
         turn_has _ e _ _ (names _ _ _ _ h agreed (plain d.decoded d.says) _ (datagram_takes e from bytes d.decoded)) h
         (acts_by _ _ _ _ e _ _ _ _ d.acts)

@@ -5,6 +5,7 @@ use Rattle.tftp_rules.proofs.Common.{if◌then◌else◌, Holding, SinkMeaning, 
 use Rattle.tftp_rules.proofs.Common.{Sink, Action, Respond, Send, Store, Response, Fresh, Sending, Receiving, Dallying}
 use Rattle.tftp_rules.proofs.Common.{Terms, EndState, Turn, Acts, SendsFrom, StoresIn, response_turn, sent_turn}
 use Rattle.tftp_rules.proofs.Common.{refused_turn, block_length, Endpoint}
+use Rattle.tftp_ends.proofs.RunMoves.{if_either}
 use Rattle.tftp_ends.specs.declared.error_reply.ErrorReply.TheVariants.{DiskFull, FileChanged}
 use Rattle.tftp_ends.specs.declared.outcome.Outcome.TheVariants as outcomes
 use Rattle.tftp_ends.specs.Step.{GoesOn, Done}
@@ -31,11 +32,6 @@ module _ (sources : SourceMeaning (List ℕ)) (sinks : SinkMeaning Holding) (fro
     (e : EndState) where
   moved : (action : Action) (turn turn' : Turn) → turn ≡ turn' → TurnBy from e action turn' → TurnBy from e action turn
   moved action turn turn' is h = subst (λ (t : Turn). TurnBy from e action t) (sym is) h
-
-  one_of : (action : Action) (b : Bool) (one two : Turn) → TurnBy from e action one → TurnBy from e action two →
-      TurnBy from e action (if b then one else two)
-  one_of action true one two h k = h
-  one_of action false one two h k = k
 
   committed : (terms : Terms) (number : ℕ) (after : List ℕ) (answer : Result Done StoreFault) →
       TurnBy from e (Store terms number) (committed_turn terms number from (holding after e) answer)
@@ -64,8 +60,9 @@ module _ (sources : SourceMeaning (List ℕ)) (sinks : SinkMeaning Holding) (fro
       SendsFrom sources sinks terms number from e files turn files' →
       TurnBy from e (Send terms number) turn
   sends terms number (Source left) (Source left') turn d =
-      moved _ _ _ d.answers (one_of _ (result_count_is (block_length e.role.length terms.size number) d.answer) _ _
-      (Sends_data terms number d.piece) (Cannot_read terms number))
+      moved _ _ _ d.answers (if_either (TurnBy from e (Send terms number))
+      (result_count_is (block_length e.role.length terms.size number) d.answer) _ _
+      (λ _. Sends_data terms number d.piece) (λ _. Cannot_read terms number))
   sends terms number (Source left) (Sink sink) turn d = absurd d
   sends terms number (Sink sink) files' turn d = absurd d
 

@@ -4,10 +4,10 @@ use Rattle.tftp_rules.proofs.Common.{◌≡◌, ℕ, true, false, List, ◌++◌
 use Rattle.tftp_rules.proofs.Common.{◌≢◌, option_map, slice_get, Contains, true≢false, same_Some, Spells, Mode, Asked}
 use Rattle.tftp_rules.proofs.Common.{wire_text, Holding, Files, Outcome, Phase, Waiting, Terms, EndState, is_sender}
 use Rattle.tftp_rules.proofs.Common.{is_client, outcome_of, terms_of, Decodes, is_wrong_peer, same_address, Turn}
-use Rattle.tftp_rules.proofs.Common.{after_turn, timeout_turn, default_terms, EndKept, PhaseKept, IsFromServer, IsThere}
-use Rattle.tftp_rules.proofs.Common.{Attests, Holds, known_source, known_sink, Endpoint, Elsewhere, Machine, Message}
-use Rattle.tftp_rules.proofs.Common.{Network, Party, start, OpenEnd, files_of, open_view, Rule, message, run, said}
-use Rattle.tftp_rules.proofs.Common.{EndView, IsShownAt, Matches}
+use Rattle.tftp_rules.proofs.Common.{after_turn, timeout_turn, default_terms, EndKept, IsFromServer, IsThere, Attests}
+use Rattle.tftp_rules.proofs.Common.{Holds, known_source, known_sink, Endpoint, Elsewhere, Machine, Message, Network}
+use Rattle.tftp_rules.proofs.Common.{Party, start, OpenEnd, files_of, open_view, Rule, message, run, said, EndView}
+use Rattle.tftp_rules.proofs.Common.{IsShownAt, Matches}
 use Rattle.std.proofs.Common.{rules as std_rules}
 use Rattle.std.specs.Prelude.{⊤}
 use Rattle.tftp_wire.specs.declared.packet.Packet.{Packet}
@@ -124,7 +124,6 @@ module _ (network : Network) (IsText : Endpoint → Mode → Type 0) (rules : Li
         terms_of x.state.position.phase ≡ None → IsPlainAnswer (Some p) → opened_as from messages ≡ Some true
     takes_plain p spells right none plain =
         let phase = waits x.state.position.phase still none in
-        let kept_now = subst (λ (q : Phase). PhaseKept network x q) phase.2 kept.phase in
         let near : same_address network.request_port from ≡ true = search std_rules in
         let here = serves (ap (option_map (λ (t : Terms). t.peer)) none) near p spells (plain_is_answer p plain) in
         let own : network.host_of from ≢ Elsewhere = own_server network from here in
@@ -149,7 +148,6 @@ module _ (network : Network) (IsText : Endpoint → Mode → Type 0) (rules : Li
         DatagramStep known_source known_sink from bytes x.state (files_of x) turn held →
         IsUnblamed network IsText messages (after_turn x.state turn)
     datagram_unblamed turn held d =
-        let Blames = BlamesBy IsText x.state.role in
         record {
           blameless =
               acts_blameless network _ (calm IsText x.state.role) _ (λ text. refl) _ _ x (λ sends left want may p b.

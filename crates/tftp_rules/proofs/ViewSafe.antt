@@ -1,8 +1,8 @@
 -- Ends that are shown are safe, as the machine is. For `texts_go_on`, `what_is_shown_is_safe` and the crates
 -- tftp_player and tftp_promises.
-use Rattle.tftp_rules.proofs.Common.{common_steps, ◌≡◌, true, List, [], ◌∷◌, ◌++◌, Some, sym, refl, ◌∙◌, arith, rules}
+use Rattle.tftp_rules.proofs.Common.{common_steps, ◌≡◌, true, List, [], ◌∷◌, ◌++◌, sym, refl, ◌∙◌, arith, rules}
 use Rattle.tftp_rules.proofs.Common.{Endpoint, Message, Machine, Network, EndView, Matches, Shows}
-use Rattle.tftp_rules.specs.Shows.{IsShown, AreApart}
+use Rattle.tftp_rules.specs.Shows.{IsShown}
 use Rattle.tftp_rules.specs.Texts.{PrefixesJoin, OnlyNothingBeginsNothing}
 use Rattle.tftp_rules.specs.MachineSafety.{party_view}
 use Rattle.tftp_rules.specs.Safety.{IsSenderAt}
@@ -30,10 +30,6 @@ found : (views : List EndView) (messages : List Message) (m : Machine) → Shows
 found views messages m s p o = search rules
 
 module _ (network : Network) where
-  -- of ends that are shown no two have one endpoint
-  pub shown_apart : (views : List EndView) (messages : List Message) → IsShown network views messages → AreApart views
-  shown_apart views messages shown = (shown_by network views messages shown).3.apart
-
   -- a receiver's peer, as it is among the views
   sender_at :
       (views : List EndView) (messages : List Message) (m : Machine) → Shows views messages m → (x : EndView)
@@ -107,6 +103,4 @@ module _ (network : Network) where
       let m = by.0 in
       let s = by.3 in
       let a = s.ends i.0 x i.1 in
-      let h = by.1.ends x.address a.is_open in
-      let peer : (m.party x.address).peer ≡ Some p = a.peer ∙ e in
       search rules

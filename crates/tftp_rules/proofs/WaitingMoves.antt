@@ -1,11 +1,12 @@
 -- A waiting client with its first answer. For EndTurns and the crate tftp_player.
+use Rattle.std.proofs.Common.{rules as std_rules}
 use Rattle.tftp_rules.proofs.Common.{◌≡◌, ℕ, ◌*◌, ◌<◌, ◌≤◌, true, false, List, [], ◌∷◌, ◌++◌, length, set, drop, Option}
 use Rattle.tftp_rules.proofs.Common.{Some, None, Result, Ok, Err, sym, refl, ap, ◌∙◌, subst, arith, inl, inr}
 use Rattle.tftp_rules.proofs.Common.{append_assoc, rules, ◌==◌, ◌&&◌, if◌then◌else◌, nat_lt, Contains, AllByRecursion}
 use Rattle.tftp_rules.proofs.Common.{ltb-true, eqb-true, DEFAULT_BLOCK, MAX_BLOCK, Mode, RawOption, Read, Write, Oack}
 use Rattle.tftp_rules.proofs.Common.{Spells, Asked, Kind, Known, Refusal, size, agreement, block, block_count, Fits}
 use Rattle.tftp_rules.proofs.Common.{wire_text, ErrorReply, Outcome, Waiting, Terms, Action, Respond, Send, Store}
-use Rattle.tftp_rules.proofs.Common.{Close, Refuse, Accept, is_sender, receiver_action, response_turn, after_turn}
+use Rattle.tftp_rules.proofs.Common.{Refuse, Accept, is_sender, receiver_action, response_turn, after_turn}
 use Rattle.tftp_rules.proofs.Common.{with_position, is_readable, default_terms, agreed_terms, refusal_action}
 use Rattle.tftp_rules.proofs.Common.{accept_action, reader_action, writer_action, Endpoint, At_server, Message, Network}
 use Rattle.tftp_rules.proofs.Common.{Rule, message, said, oack_size, EndView, IsShownWithin, OpenEnd, in_state}
@@ -33,10 +34,10 @@ use Rattle.tftp_rules.specs.EndKept.{IsAnswer}
 use Rattle.tftp_rules.proofs.Actions.{IsWaiting, stores_first, refuses_first, accepts, sends_first, sends_first_with}
 use Rattle.tftp_rules.proofs.Actions.{refuses_to_begin}
 use Rattle.tftp_rules.proofs.SaidLemmas.{data_of, spells_own, taken_oack}
-use Rattle.tftp_rules.proofs.EndMoves.{error_says, from_response, gives_up, refuses_now}
+use Rattle.tftp_rules.proofs.EndMoves.{error_says, from_response}
 use Rattle.tftp_rules.proofs.SourceMoves.{text_if, data_turn, data_end, failed_turn, data_goes, data_kept, valid_data}
 use Rattle.tftp_rules.proofs.SinkMoves.{Receives, wire_text_is, block_goes, refused_goes}
-use Rattle.tftp_rules.proofs.PhaseMoves.{Acting, OfDecoded, if_acts, both_true}
+use Rattle.tftp_rules.proofs.PhaseMoves.{Acting, OfDecoded, close_acts, if_acts, both_true, refuse_acts}
 
 -- a block size of an agreement
 pub agreed_size : (known : List Known) → AllByRecursion IsAgreeable known → (0 < size known) × (size known ≤ MAX_BLOCK)
@@ -69,14 +70,7 @@ module _ (network : Network) where
     Answers action = Acting network first views messages k waiter from bytes action
 
     refuse_waiter : (reply : ErrorReply) (outcome : Outcome) → Answers (Respond (Refuse None reply outcome))
-    refuse_waiter reply outcome turn held h =
-        from_response network first views messages k waiter (Refuse None reply outcome) from turn held
-        (refuses_now network first views messages k waiter s kept reply outcome from refl) h
-
-    close_waiter : (outcome : Outcome) → Answers (Respond (Close outcome))
-    close_waiter outcome turn held h =
-        from_response network first views messages k waiter (Close outcome) from turn held
-        (gives_up network first views messages k waiter s kept outcome from refl) h
+    refuse_waiter = refuse_acts network first views messages k waiter s kept from bytes refl
 
     refusal_acts : (refusal : Refusal) → Answers (refusal_action refusal)
     refusal_acts refusals.Repeated = refuse_waiter replies.OptionRefused (outcomes.Refused refusals.Repeated)
@@ -94,8 +88,7 @@ module _ (network : Network) where
         let response = Accept (agreed_terms from known) in
         let y = in_state (with_position (after response from waiter.state) waiter.state) waiter in
         let here : Contains messages (message from x0.address (Says_oack (size known))) =
-        subst (λ (n : ℕ). Contains messages (message from x0.address (Says_oack n))) (taken_oack asked kinds.Read
-        x0.state.role.mode options limit known e) come in
+        search (std_rules, message, taken_oack) in
         let goes_now : Goes network first views messages k waiter (response_turn response from waiter.state) y =
         record {
           said_now = message x0.address from (Says_ack 0) ∷ [];
@@ -165,7 +158,7 @@ module _ (network : Network) where
         first_cases (serves (Data number piece) refl tt) reader number piece (eqb-true number 1 b.0) (leb-true (length
         piece) DEFAULT_BLOCK b.1) (spelled (Data number piece) refl) (come (Data number piece) refl)) (λ e.
         refuse_waiter replies.IllegalOperation outcomes.Illegal)
-    reader_acts reader (Some (Error code text)) serves spelled come = close_waiter (outcomes.PeerError code)
+    reader_acts reader (Some (Error code text)) serves spelled come = search (std_rules, close_acts)
     reader_acts reader (Some (Oack options)) serves spelled come =
         accept_cases (serves (Oack options) refl tt) reader _ (come (Oack options) refl) _ refl
     reader_acts reader decoded serves spelled come = refuse_waiter replies.IllegalOperation outcomes.Illegal
@@ -198,20 +191,7 @@ module _ (network : Network) where
         let goes_now : Goes network first views messages k waiter (data_turn waiter terms 0 from) (data_end waiter terms
         0 from) = record {
           said_now = message x0.address from (said packet) ∷ [];
-          shown =
-              subst (λ (p : Endpoint). IsShownWithin network 3 first (set views k (record (open_view waiter) {
-                peer
-                    = Some p;
-                size = terms.size;
-                number = 1;
-              })) (messages ++ message x0.address from (said packet) ∷ [])) (sym
-              peer) (subst (λ (t : List ℕ). IsShownWithin network 3 first (set views k (record (open_view waiter) {
-                peer
-                    = Some from;
-                size = terms.size;
-                number = 1;
-              })) (messages ++ message x0.address from (Says_data 1 (block t
-              terms.size 1)) ∷ [])) text_is (shown (subst (λ (t : List ℕ). Fits t terms.size) (sym text_is) fits)));
+          shown = search std_rules;
           replies = (packet, spells_own packet (valid_data text terms.size 0 positive small fits l), refl);
           kept = data_kept network waiter terms 0 from kept measured writer positive small fits l (sym peer);
           side = refl;
@@ -274,7 +254,7 @@ module _ (network : Network) where
         if_acts Answers (acked == 0) (begin_action x0.state.role.length (default_terms from)) no_answer (λ e.
         begin_plain (serves (Ack acked) refl tt) writer (rw (← eqb-true acked 0 e) (come (Ack acked) refl))) (λ e.
         refuse_waiter replies.IllegalOperation outcomes.Illegal)
-    writer_acts writer (Some (Error code text)) serves come = close_waiter (outcomes.PeerError code)
+    writer_acts writer (Some (Error code text)) serves come = search (std_rules, close_acts)
     writer_acts writer (Some (Oack options)) serves come =
         begin_with (serves (Oack options) refl tt) writer _ (come (Oack options) refl) _ refl
     writer_acts writer decoded serves come = refuse_waiter replies.IllegalOperation outcomes.Illegal

@@ -152,9 +152,7 @@ party_after (Fails at) x = record x { failed = true }
 party_after (Fails_with at peer bytes) x = record x { failed = true; text = x.text ++ bytes }
 party_after (Fails_to_begin at peer size) x =
     record x { peer = Some peer; size = size; failed = true }
-party_after (Says_error at to) x = x
-party_after (Repeats old) x = x
-party_after (Strays stray) x = x
+party_after r x = x
 
 -- this request of this client opened the end
 pub record IsOpenedBy (x : Party) (peer : Endpoint) (write : Bool)
@@ -225,17 +223,13 @@ module _ (network : Network) where
   packets (Takes_oack at peer size) x =
       message at peer (if x.sender then Data 1 (block x.text size 1) else Ack 0) ∷ []
   packets (Takes_ack at peer) x = message at peer (Data 1 (block x.text DEFAULT_BLOCK 1)) ∷ []
-  packets (Takes_data at peer bytes) x = []
   packets (Appends at peer bytes) x = message at peer (Ack (x.number + 1)) ∷ []
   packets (Sends_next at peer) x =
       message at peer (Data (x.number + 1) (block x.text x.size (x.number + 1))) ∷ []
-  packets (Completes at peer) x = []
-  packets (Fails at) x = []
-  packets (Fails_with at peer bytes) x = []
-  packets (Fails_to_begin at peer size) x = []
   packets (Says_error at to) x = message at to Error ∷ []
   packets (Repeats old) x = old ∷ []
   packets (Strays stray) x = stray ∷ []
+  packets r x = []
 
   -- when the rule may act in the machine
   abbrev pub Guard : Rule → Machine → Type 0

@@ -1,6 +1,6 @@
 //! The request port of a server: which socket it is, and when the server takes a request there.
 
-ghost use Rattle.std.specs.Prelude.{◌≡◌, ◌≤◌, ◌∷◌, IfOk, IsSome, IsTrue, None, length};
+ghost use Rattle.std.specs.Prelude.{◌≡◌, ◌≤◌, ◌∷◌, IfOk, IsSome, IsTrue, None, Some, length};
 ghost use Rattle.tftp_sockets.specs.Bound.{IsBoundTo};
 ghost use Rattle.tftp_sockets.specs.Receipt.{Fits, receive_event};
 ghost use Rattle.tftp_sockets.specs.declared.address.TheConstants.{DATAGRAM_BUFFER};
@@ -26,6 +26,7 @@ impl RequestPort {
     /// The port of a server alone, which binds it there.
     pub fn own(at: Endpoint) -> RequestPort
         ensures at { result.at ≡ at }
+        ensures socket { result.socket ≡ None }
         ensures alone { result.share ≡ None }
     {
         RequestPort {
@@ -38,6 +39,7 @@ impl RequestPort {
     /// The port of a server alone, to which this socket was handed over.
     pub fn handed(socket: HandedSocket) -> RequestPort
         ensures at { result.at ≡ socket.endpoint }
+        ensures socket { result.socket ≡ Some socket }
         ensures alone { result.share ≡ None }
     {
         RequestPort {
@@ -50,6 +52,7 @@ impl RequestPort {
     /// The port of one of several servers, to each of which this socket was handed over.
     pub fn shared(socket: HandedSocket) -> RequestPort
         ensures at { result.at ≡ socket.endpoint }
+        ensures socket { result.socket ≡ Some socket }
         ensures shared { IsSome result.share }
     {
         RequestPort {

@@ -1,6 +1,7 @@
 //! Which of several servers takes a request.
 
-ghost use Rattle.std.specs.Prelude.{◌≡◌, ◌≢◌, ◌≤◌, ◌<◌, ◌-◌, ◌↔◌, None, IfNone, IfSome, IsSome, IsTrue};
+ghost use Rattle.std.specs.Prelude.{◌≡◌, ◌≢◌, ◌≤◌, ◌<◌, ◌-◌, ◌↔◌, None};
+ghost use Rattle.std.specs.Prelude.{IfNone, IfSome, IsSome, IsTrue};
 ghost use Rattle.tftp_service.specs.Looks.{HasPart, MayLeave, noted_at, settled_at};
 ghost use Rattle.tftp_service.specs.Share.{debt_at, left_since, owed_after, pause_of, used_after};
 

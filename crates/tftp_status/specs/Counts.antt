@@ -80,7 +80,8 @@ opened_by way (entries.Opened direction) = if is_way way direction then Some 1 e
 opened_by way entry = None
 
 abbrev pub closed_by : Direction → Entry → Option ℕ
-closed_by way (entries.Closed direction outcome bytes again) = if is_way way direction then Some 1 else None
+closed_by way (entries.Closed direction outcome bytes again) =
+    if is_way way direction then Some 1 else None
 closed_by way entry = None
 
 abbrev pub bytes_by : Direction → Entry → Option ℕ
@@ -150,7 +151,8 @@ counts_of noted = record {
 abbrev pub ended_with : Outcome → OutcomeCounts → OutcomeCounts
 ended_with outcomes.Complete old = record old { complete = saturated (1 + old.complete) }
 ended_with outcomes.TimedOut old = record old { timed_out = saturated (1 + old.timed_out) }
-ended_with (outcomes.PeerError code) old = record old { peer_error = saturated (1 + old.peer_error) }
+ended_with (outcomes.PeerError code) old =
+    record old { peer_error = saturated (1 + old.peer_error) }
 ended_with outcomes.Illegal old = record old { illegal = saturated (1 + old.illegal) }
 ended_with (outcomes.Refused refusal) old = record old { refused = saturated (1 + old.refused) }
 ended_with outcomes.TooLarge old = record old { too_large = saturated (1 + old.too_large) }

@@ -7,4 +7,7 @@ pub mod OpenLine
 pub mod Comments
 pub mod StatusFile
 pub mod Told
+pub mod Schedule
+pub mod ServerFacts
+pub mod Writing
 pub mod FileName

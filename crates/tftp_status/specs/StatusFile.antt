@@ -24,7 +24,7 @@ abbrev pub draft_of : List ℕ → List ℕ
 draft_of file = file ++ codes "~"
 
 -- what is known of a status file: its path and that of its temporary file; the counts and the
--- datagrams; what it was told and handed; and what its disk was asked
+-- datagrams; what was noted and written; and what its disk was asked
 pub record Status : Type 0 where
   pub file : List ℕ
   pub draft : List ℕ
@@ -65,7 +65,8 @@ FoundReplaceable path (event ∷ before) = FoundReplaceable path before
 abbrev pub ReplacesFiles : List DiskEvent → Type 0
 ReplacesFiles [] = ⊤
 ReplacesFiles (Removed path answer ∷ before) = FoundReplaceable path before × ReplacesFiles before
-ReplacesFiles (Renamed state from to answer ∷ before) = FoundReplaceable to before × ReplacesFiles before
+ReplacesFiles (Renamed state from to answer ∷ before) =
+    FoundReplaceable to before × ReplacesFiles before
 ReplacesFiles (event ∷ before) = ReplacesFiles before
 
 -- the bytes of each file that was renamed
@@ -81,7 +82,7 @@ IsTextOf entries datagrams text =
     (facts : Facts) × (lines : List ℕ) × AreComments lines
     × (text ≡ status_text (counts_of entries) datagrams facts lines)
 
--- each text that was handed is that of what was counted by then
+-- each text that was written is that of what was counted by then
 abbrev pub HandsCounts : List StatusEvent → Type 0
 HandsCounts [] = ⊤
 HandsCounts (Told entry ∷ before) = HandsCounts before
@@ -95,9 +96,9 @@ pub record KeepsFiles (file draft : List ℕ) (before after : List DiskEvent) : 
   pub own : AllOwn file draft before → AllOwn file draft after
   pub replaces : ReplacesFiles before → ReplacesFiles after
 
--- the temporary file is that of the file; the counts are those of what was told, and the datagrams
--- those that went; each text that the file was handed is that of what was counted by then, and the
--- files that got its name had these texts, in their order; all that its disk was asked to change is
+-- the temporary file is that of the file; the counts are those of what was noted, and the datagrams
+-- those that went; each text that was written is that of what was counted by then, and the files
+-- that got its name had these texts, in their order; all that its disk was asked to change is
 -- the file and its temporary file; and what it replaced was a regular file, or nothing
 pub record KeepsCounts (status : Status) : Type 0 where
   pub beside : status.draft ≡ draft_of status.file
@@ -108,7 +109,8 @@ pub record KeepsCounts (status : Status) : Type 0 where
   pub own : AllOwn status.file status.draft status.log
   pub replaces : ReplacesFiles status.log
 
--- a status file at this path, with its temporary file beside it, that was told and handed nothing
+-- a status file at this path, with its temporary file beside it, for which nothing was noted, and to
+-- which nothing was written
 pub record IsNewAt (file : List ℕ) (status : Status) : Type 0 where
   pub file_is : status.file ≡ file
   pub draft_is : status.draft ≡ draft_of file

@@ -36,7 +36,8 @@ server_label None = []
 -- the labels of a server
 abbrev pub labels_text : Labels → List ℕ
 labels_text labels =
-    codes "address=\"" ++ (endpoint_text labels.address ++ (codes "\"" ++ server_label labels.server))
+    codes "address=\""
+    ++ (endpoint_text labels.address ++ (codes "\"" ++ server_label labels.server))
 
 -- a sample without a label of its own, and with one
 abbrev pub lone_text : List ℕ → Labels → ℕ → List ℕ
@@ -49,7 +50,8 @@ sample_text name label of labels value =
     ++ (codes "{"
     ++ (label
     ++ (codes "=\""
-    ++ (of ++ (codes "\"," ++ (labels_text labels ++ (codes "} " ++ (decimal value ++ codes "\n"))))))))
+    ++ (of
+    ++ (codes "\"," ++ (labels_text labels ++ (codes "} " ++ (decimal value ++ codes "\n"))))))))
 
 abbrev pub sample_line : Sample → List ℕ
 sample_line sample =
@@ -127,7 +129,8 @@ open_of counts = counts.opened - counts.closed
 -- what the sockets moved, and how many transfers are open
 abbrev pub load_text : Counts → Datagrams → Labels → List ℕ
 load_text counts datagrams labels =
-    head_text (codes "tftpd_datagrams_total") Counter (codes "Datagrams of all ports of the server.")
+    head_text (codes "tftpd_datagrams_total") Counter
+    (codes "Datagrams of all ports of the server.")
     ++ (sample_text (codes "tftpd_datagrams_total") (codes "way") (codes "received") labels
     datagrams.received
     ++ (sample_text (codes "tftpd_datagrams_total") (codes "way") (codes "sent") labels

@@ -1,4 +1,4 @@
--- What a device that reports was told (ours).
+-- What was noted at a device that reports (ours).
 use Rattle.std.specs.Prelude.{List, Option, None, Some}
 use Rattle.tftp_sockets.specs.declared.entry.Entry.{Entry}
 use Rattle.tftp_status.specs.StatusEvent.{told_in}

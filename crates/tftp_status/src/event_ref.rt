@@ -8,11 +8,11 @@ use tftp_trace::Kind;
 /// An event to be noted, with the text that it borrows.
 #[derive(Clone, Copy)]
 pub(crate) enum EventRef<'a> {
-    /// The server told this.
+    /// The server noted this entry.
     Told(Entry),
     /// A datagram went this way.
     Moved(Way),
-    /// The file was handed this text.
+    /// This text was written to the file.
     Handed(&'a str),
 }
 

@@ -1,42 +1,31 @@
 //! When a server's status file is written, and with what.
 
-ghost use Rattle.std.specs.Prelude.{◌≡◌, ◌∷◌};
+ghost use Rattle.std.specs.Prelude.{◌≡◌, ◌∷◌, OnOk};
+ghost use Rattle.tftp_status.specs.Schedule.{at_start, changed, is_due, waiting_at};
 ghost use Rattle.tftp_status.specs.StatusEvent.{told_in};
 ghost use Rattle.tftp_status.specs.StatusEvent.StatusEvent.{Moved, Told};
 ghost use Rattle.tftp_status.specs.StatusFile.{IsNewAt, KeepsCounts};
+ghost use Rattle.tftp_status.specs.Writing.{HandsText, WritesAt};
 
 use crate::comments::Comments;
 use crate::datagrams::Way;
-use crate::labels::Labels;
+use crate::schedule::Schedule;
+use crate::server_facts::ServerFacts;
 use crate::status_file::StatusFile;
 use crate::status_paths::StatusPaths;
-use crate::status_text::Facts;
 use crate::unused_disk::UnusedDisk;
 use std::alloc::Global;
 use tftp_disk::Disk;
 use tftp_lines::Reason;
 use tftp_sockets::{Entry, OpenTransfer};
 
-/// The time between two texts, in milliseconds.
-const PERIOD: u64 = 1_000;
-
-/// The age at which a text is written again though nothing has changed, in milliseconds: whoever reads
-/// it tells a server that hangs from one that is idle.
-const LONGEST_AGE: u64 = 60_000;
-
-/// The file of a server's reports, and what they say of the server beside its counts.
+/// The file of a server's reports, and what they say beside its counts.
 #[derive(Drop)]
 pub struct ReportSettings {
     /// The paths of the file and of its temporary file.
     pub paths: StatusPaths,
-    /// Which server it is of.
-    pub labels: Labels,
-    /// The version of the program.
-    pub version: String,
-    /// The most transfers that may be open.
-    pub limit: u64,
-    /// When the server started, in seconds since 1970 began in UTC.
-    pub start: u64,
+    /// What they say of the server.
+    pub server: ServerFacts,
 }
 
 /// The reports of a server.
@@ -44,39 +33,25 @@ pub struct ReportSettings {
 pub(crate) struct Report<D: Disk> {
     status: StatusFile<D>,
     alloc: Global,
-    labels: Labels,
-    version: String,
-    limit: u64,
-    start: u64,
+    server: ServerFacts,
     /// The lines of the open transfers, of the report that is being made.
     lines: Comments,
-    /// The earliest time of the next text, in milliseconds of the watch.
-    due: u64,
-    /// The latest time of the next text, in milliseconds of the watch.
-    stale: u64,
-    /// Whether the newest text lacks what was counted since, or was not written.
-    is_changed: bool,
-    /// Whether a failure was said.
-    has_failed: bool,
+    schedule: Schedule,
 }
 
 impl<D: Disk> Report<D> {
     /// The reports of a server that has done nothing yet. The first is due at once.
     pub(crate) fn new(alloc: Global, disk: UnusedDisk<D>, settings: ReportSettings) -> Report<D>
-        ensures { IsNewAt settings.paths result.status }
+        ensures file { IsNewAt settings.paths result.status }
+        ensures server { result.server ≡ settings.server }
+        ensures due { result.schedule ≡ at_start }
     {
         Report {
             status: StatusFile::new(disk.into_disk(), settings.paths),
             alloc,
-            labels: settings.labels,
-            version: settings.version,
-            limit: settings.limit,
-            start: settings.start,
+            server: settings.server,
             lines: Comments::new(alloc),
-            due: 0,
-            stale: 0,
-            is_changed: true,
-            has_failed: false,
+            schedule: Schedule::new(),
         }
     }
 
@@ -84,18 +59,22 @@ impl<D: Disk> Report<D> {
     pub(crate) fn add(&mut self, entry: Entry)
         ensures events { self.new.status.events ≡ Told entry ∷ self.old.status.events }
         ensures file { self.new.status.file ≡ self.old.status.file }
+        ensures server { self.new.server ≡ self.old.server }
+        ensures due { self.new.schedule ≡ changed self.old.schedule }
     {
         self.status.add(entry);
-        self.is_changed = true;
+        self.schedule.change();
     }
 
     /// Counts a datagram.
     pub(crate) fn add_datagram(&mut self, way: Way)
         ensures events { self.new.status.events ≡ Moved way ∷ self.old.status.events }
         ensures file { self.new.status.file ≡ self.old.status.file }
+        ensures server { self.new.server ≡ self.old.server }
+        ensures due { self.new.schedule ≡ changed self.old.schedule }
     {
         self.status.add_datagram(way);
-        self.is_changed = true;
+        self.schedule.change();
     }
 
     /// What its file keeps. It does nothing.
@@ -105,20 +84,18 @@ impl<D: Disk> Report<D> {
         let _ = self.status.counts();
     }
 
-    /// Whether a text is to be written at this time: something has changed and the last one is a second
-    /// old, or that is a minute old.
-    pub(crate) fn is_due(&self, now: u64) -> bool {
-        now >= self.due && self.lacks(now)
-    }
-
-    /// Whether the newest text lacks something, or is too old.
-    fn lacks(&self, now: u64) -> bool {
-        self.is_changed || now >= self.stale
+    /// Whether a text is to be written at this time.
+    pub(crate) fn is_due(&self, now: u64) -> bool
+        ensures { result ≡ is_due now self.now.schedule }
+    {
+        self.schedule.is_due(now)
     }
 
     /// Adds the line of an open transfer. Out of memory it is left out.
     pub(crate) fn add_open(&mut self, transfer: OpenTransfer<'_>)
-        ensures { self.new.status ≡ self.old.status }
+        ensures status { self.new.status ≡ self.old.status }
+        ensures server { self.new.server ≡ self.old.server }
+        ensures due { self.new.schedule ≡ self.old.schedule }
     {
         self.lines.add(transfer);
     }
@@ -129,45 +106,43 @@ impl<D: Disk> Report<D> {
     pub(crate) fn write(&mut self, now: u64, time: u64) -> Option<Reason>
         ensures told { told_in self.new.status.events ≡ told_in self.old.status.events }
         ensures file { self.new.status.file ≡ self.old.status.file }
+        ensures server { self.new.server ≡ self.old.server }
+        ensures due { WritesAt now self.old.schedule self.new.schedule
+            (self.new.status ≡ self.old.status)
+            (HandsText time self.old.server self.old.lines self.old.status self.new.status)
+            result }
     {
-        let written = if self.lacks(now) {
-            self.write_text(now, time)
-        } else {
-            Ok(())
-        };
-        self.lines.clear();
-        self.due = now.saturating_add(PERIOD);
-        self.first_failure(written)
+        if !self.schedule.lacks(now) {
+            self.begin_next(now);
+            return None;
+        }
+        let written = self.write_text(time);
+        let failure = self.schedule.first_failure(written);
+        self.schedule.note_text(now, written);
+        self.begin_next(now);
+        failure
     }
 
     /// Writes a text.
-    fn write_text(&mut self, now: u64, time: u64) -> Result<(), Reason>
+    fn write_text(&mut self, time: u64) -> Result<(), Reason>
         ensures told { told_in self.new.status.events ≡ told_in self.old.status.events }
         ensures file { self.new.status.file ≡ self.old.status.file }
+        ensures server { self.new.server ≡ self.old.server }
+        ensures due { self.new.schedule ≡ self.old.schedule }
+        ensures ok { OnOk result (HandsText time self.old.server self.old.lines
+            self.old.status self.new.status) }
     {
-        let facts = Facts {
-            labels: self.labels,
-            version: self.version.as_str(),
-            limit: self.limit,
-            start: self.start,
-            time,
-        };
-        let written = self.status.write(self.alloc, facts, &self.lines);
-        self.is_changed = written.is_err();
-        self.stale = now.saturating_add(LONGEST_AGE);
-        written
+        let facts = self.server.at(time);
+        self.status.write(self.alloc, facts, &self.lines)
     }
 
-    /// The failure, if there is one and none was before.
-    fn first_failure(&mut self, written: Result<(), Reason>) -> Option<Reason>
-        ensures { self.new.status ≡ self.old.status }
+    /// Begins the next text.
+    fn begin_next(&mut self, now: u64)
+        ensures status { self.new.status ≡ self.old.status }
+        ensures server { self.new.server ≡ self.old.server }
+        ensures due { self.new.schedule ≡ waiting_at now self.old.schedule }
     {
-        match written {
-            Err(reason) if !self.has_failed => {
-                self.has_failed = true;
-                Some(reason)
-            }
-            _ => None,
-        }
+        self.lines.clear();
+        self.schedule.wait(now);
     }
 }

@@ -1,11 +1,13 @@
 //! What a server reports, if it does.
 
-ghost use Rattle.std.specs.Prelude.{◌≡◌, ◌∷◌, None, IfNone, IfSome, is_some, option_map};
+ghost use Rattle.std.specs.Prelude.{◌≡◌, ◌∷◌, false, None, IfNone, IfSome, is_some, option_map};
 ghost use Rattle.tftp_sockets.specs.Told.{and_told};
 ghost use Rattle.tftp_status.specs.Datagrams.{with_receipt};
+ghost use Rattle.tftp_status.specs.Schedule.{at_start, changed, changed_by, is_due};
 ghost use Rattle.tftp_status.specs.StatusEvent.StatusEvent.{Moved};
 ghost use Rattle.tftp_status.specs.StatusFile.{IsNewAt, KeepsCounts};
 ghost use Rattle.tftp_status.specs.Told.{told_to};
+ghost use Rattle.tftp_status.specs.Writing.{HandsText, WritesAt};
 
 use crate::datagrams::Way;
 use crate::report::{Report, ReportSettings};
@@ -29,6 +31,9 @@ impl<D: Disk> Reporting<D> {
         ensures none { IfNone settings (result.report ≡ None) }
         ensures file { IfSome settings (λ settings. IfSome result.report
             (λ report. IsNewAt settings.paths report.status)) }
+        ensures server { IfSome settings (λ settings. IfSome result.report
+            (λ report. report.server ≡ settings.server)) }
+        ensures due { IfSome result.report (λ report. report.schedule ≡ at_start) }
     {
         match settings {
             Some(settings) => Reporting {
@@ -38,7 +43,7 @@ impl<D: Disk> Reporting<D> {
         }
     }
 
-    /// What is kept of the reports (`KeepsCounts`), whatever was told and the system answered. It does
+    /// What is kept of the reports (`KeepsCounts`), whatever was noted and the system answered. It does
     /// nothing.
     pub fn keeps_counts(&self)
         ensures { IfSome self.now.report (λ report. KeepsCounts report.status) }
@@ -49,7 +54,9 @@ impl<D: Disk> Reporting<D> {
     }
 
     /// Whether something is reported.
-    pub fn is_on(&self) -> bool {
+    pub fn is_on(&self) -> bool
+        ensures { result ≡ is_some self.now.report }
+    {
         self.report.is_some()
     }
 
@@ -59,6 +66,10 @@ impl<D: Disk> Reporting<D> {
             ≡ and_told entry (told_to (option_map (λ report. report.status) self.old.report)) }
         ensures file { option_map (λ report. report.status.file) self.new.report
             ≡ option_map (λ report. report.status.file) self.old.report }
+        ensures server { option_map (λ report. report.server) self.new.report
+            ≡ option_map (λ report. report.server) self.old.report }
+        ensures due { option_map (λ report. report.schedule) self.new.report
+            ≡ option_map (λ report. changed report.schedule) self.old.report }
     {
         if let Some(report) = &mut self.report {
             report.add(entry);
@@ -73,6 +84,10 @@ impl<D: Disk> Reporting<D> {
             ≡ told_to (option_map (λ report. report.status) self.old.report) }
         ensures file { option_map (λ report. report.status.file) self.new.report
             ≡ option_map (λ report. report.status.file) self.old.report }
+        ensures server { option_map (λ report. report.server) self.new.report
+            ≡ option_map (λ report. report.server) self.old.report }
+        ensures due { option_map (λ report. report.schedule) self.new.report
+            ≡ option_map (λ report. changed report.schedule) self.old.report }
     {
         if let Some(report) = &mut self.report {
             report.add_datagram(way);
@@ -87,6 +102,10 @@ impl<D: Disk> Reporting<D> {
             ≡ told_to (option_map (λ report. report.status) self.old.report) }
         ensures file { option_map (λ report. report.status.file) self.new.report
             ≡ option_map (λ report. report.status.file) self.old.report }
+        ensures server { option_map (λ report. report.server) self.new.report
+            ≡ option_map (λ report. report.server) self.old.report }
+        ensures due { option_map (λ report. report.schedule) self.new.report
+            ≡ option_map (λ report. changed_by receipt report.schedule) self.old.report }
     {
         if let Receipt::Datagram(..) = receipt {
             self.count_datagram(Way::Received);
@@ -94,7 +113,10 @@ impl<D: Disk> Reporting<D> {
     }
 
     /// Whether a report is due at this time of the watch, in milliseconds.
-    pub fn is_due(&self, now: u64) -> bool {
+    pub fn is_due(&self, now: u64) -> bool
+        ensures some { IfSome self.now.report (λ report. result ≡ is_due now report.schedule) }
+        ensures none { IfNone self.now.report (result ≡ false) }
+    {
         match &self.report {
             Some(report) => report.is_due(now),
             None => false,
@@ -107,6 +129,10 @@ impl<D: Disk> Reporting<D> {
             ≡ told_to (option_map (λ report. report.status) self.old.report) }
         ensures file { option_map (λ report. report.status.file) self.new.report
             ≡ option_map (λ report. report.status.file) self.old.report }
+        ensures server { option_map (λ report. report.server) self.new.report
+            ≡ option_map (λ report. report.server) self.old.report }
+        ensures due { option_map (λ report. report.schedule) self.new.report
+            ≡ option_map (λ report. report.schedule) self.old.report }
     {
         if let Some(report) = &mut self.report {
             report.add_open(transfer);
@@ -121,6 +147,12 @@ impl<D: Disk> Reporting<D> {
             ≡ told_to (option_map (λ report. report.status) self.old.report) }
         ensures file { option_map (λ report. report.status.file) self.new.report
             ≡ option_map (λ report. report.status.file) self.old.report }
+        ensures server { option_map (λ report. report.server) self.new.report
+            ≡ option_map (λ report. report.server) self.old.report }
+        ensures due { IfSome self.old.report (λ old. IfSome self.new.report (λ new.
+            WritesAt now old.schedule new.schedule (new.status ≡ old.status)
+            (HandsText time old.server old.lines old.status new.status) result)) }
+        ensures none { IfNone self.old.report (result ≡ None) }
     {
         match &mut self.report {
             Some(report) => report.write(now, time),

@@ -24,10 +24,10 @@ use tftp_disk::{Disk, DiskFile, DiskWriter, Found, Kind};
 use tftp_lines::{Reason, reason_of};
 use tftp_sockets::Entry;
 
-/// A file with the counts of what was told. It is written to a temporary file beside it, which gets its
+/// A file with the counts of what was noted. It is written to a temporary file beside it, which gets its
 /// name: so nobody sees half of it. Only a regular file is replaced, or nothing.
 ///
-/// Its model is what it was told, and what its disk was asked (`Status`).
+/// Its model is what was noted and written, and what its disk was asked (`Status`).
 #[derive(Drop)]
 pub struct StatusFile<D: Disk> {
     disk: D,

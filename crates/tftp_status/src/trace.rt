@@ -1,8 +1,8 @@
-//! What a status file was told and handed, as only clauses read it.
+//! What was noted for a status file, and what was written to it, as only clauses read it.
 
 use std::marker::Model;
 
-/// What a status file was told and handed, the newest event first.
+/// What was noted for a status file, and what was written to it, the newest event first.
 pub(crate) type Trace = tftp_trace::Trace<StatusEvents>;
 
 /// The events of a status file. Its one value is that of none.

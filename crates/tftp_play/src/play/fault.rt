@@ -9,10 +9,10 @@ ghost use Rattle.tftp_play.specs.declared.play.fault.PlayFault.TheVariants.{Unwr
 ghost use Rattle.tftp_play.specs.Play.{is_undrawn, is_unreadable, play_fault_of};
 
 use crate::play::EventNames;
+use crate::script::{FaultyLine, ScriptFault};
 use std::alloc::AllocError;
 use std::fmt;
 use std::io::{self, ErrorKind, Write};
-use tftp_script::{FaultyLine, ScriptFault};
 
 /// How a script is played: whether `-` has its event beside it, and what messages call the files.
 #[derive(Clone, Copy)]

@@ -9,6 +9,7 @@ use crate::play::PlayFault;
 use crate::play::datagram_line::DatagramLine;
 use crate::play::event_name::{EventName, EventNames};
 use crate::recording::Recording;
+use crate::script::Statement;
 use rand_core::SeedableRng;
 use rand_pcg::Pcg32;
 use std::alloc::{AllocError, Global};
@@ -16,7 +17,6 @@ use std::io::{BufWriter, Write};
 use tftp_ends::{Record, Side};
 use tftp_file::Path;
 use tftp_player::{Event, Report, World, WorldFault, draw};
-use tftp_script::Statement;
 use tftp_server::Config;
 
 /// The most deliveries of one `settle`.

@@ -1,5 +1,5 @@
 -- The lemma that is the law.
-use Rattle.tftp_promises.proofs.ClosedLines.{lines_are_closes}
+use Rattle.tftp_promises.proofs.ClientsRun.{lines_are_closes}
 use Rattle.tftp_promises.proofs.laws.each_line_is_a_close.Goals as goal
 
 pub returns : goal.returns

@@ -1,5 +1,5 @@
 -- The lemma that is the law.
-use Rattle.tftp_promises.proofs.FreshPorts.{fresh_ports}
+use Rattle.tftp_promises.proofs.KeptFresh.{fresh_ports}
 use Rattle.tftp_promises.proofs.laws.ports_that_all_differ_are_fresh.Goals as goal
 
 pub returns : goal.returns

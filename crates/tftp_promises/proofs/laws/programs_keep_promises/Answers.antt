@@ -1,6 +1,6 @@
 -- The lemmas that are the law.
 use Rattle.tftp_promises.proofs.OthersTaken.{alone_joined}
-use Rattle.tftp_promises.proofs.ProgramsShown.{programs_keep_any}
+use Rattle.tftp_promises.proofs.EachAlone.{programs_keep_any}
 use Rattle.tftp_promises.proofs.laws.programs_keep_promises.Goals as goal
 
 pub returns-clause-any_files : goal.returns-clause-any_files

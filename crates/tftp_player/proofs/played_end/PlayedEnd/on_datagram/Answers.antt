@@ -1,6 +1,5 @@
 -- A datagram at a client, or at a transfer, is one at its end.
 use Rattle.tftp_player.proofs.Common.{rules}
-use Rattle.tftp_player.specs.declared.played_end.PlayedEnd.{PlayedEnd}
 use Rattle.tftp_player.proofs.PlayerLemmas.{client_takes, ended_as}
 use Rattle.tftp_player.proofs.ServedLemmas.{served_takes, took_kept}
 use Rattle.tftp_player.proofs.played_end.PlayedEnd.on_datagram.Goals as goal

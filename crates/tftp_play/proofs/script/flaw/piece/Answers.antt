@@ -1,0 +1,12 @@
+-- The parts of a split are those between the separators.
+use Rattle.std.proofs.Common.{rules, tests}
+use Rattle.std.specs.Prelude.{◌==◌}
+use Rattle.std.proofs.lemmas.Iterator.Consumers.{nth_from_yields_List}
+use Rattle.std.proofs.lemmas.Iterator.Splits.{YieldsList-from_slice_split}
+use Rattle.tftp_play.proofs.script.flaw.piece.Goals as goal
+
+pub returns : goal.returns
+returns c =
+    nth_from_yields_List c.nth.result c.nth.new.self c.args.index c.nth.ensures.ran
+    (YieldsList-from_slice_split _ (λ byte. byte == c.args.separator) c.args.bytes.now c.split.ensures.rest
+    c.split.ensures.done c.split.ensures.closure (λ x b q k. search (rules, tests)))

@@ -1,4 +1,0 @@
-pub mod Files
-pub mod Flaw
-pub mod Playable
-pub mod Setting
