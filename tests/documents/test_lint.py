@@ -1,7 +1,7 @@
 """Tools and documents by linters: ruff or pyflakes, and mypy, look at the Python files, and shellcheck at the shell
 scripts; each is skipped where it is not installed. What one finds counts where its version is Debian 12's: another
 may find more, and no gate fails for what is installed on its host. Each wrong body can be applied, and has a line in
-tools/wrong_bodies.txt."""
+tools/wrong_bodies.txt. Specs take operators from std."""
 import ast
 import os
 import re
@@ -76,3 +76,9 @@ def test_shell() -> None:
 
 def test_wrong_bodies() -> None:
     assert wrong_bodies.not_applied() == []
+
+
+def test_operators_of_specs() -> None:
+    """`rt ci` refuses an operator that a specification has from a crate of this repository; `rt check` does not."""
+    assert [f"{path.relative_to(TOP)}: {line}" for path in TOP.glob("crates/*/specs/**/*.antt")
+            for line in path.read_text().splitlines() if re.match(r"(pub )?use Rattle\.(tftp|tests)_.*◌", line)] == []

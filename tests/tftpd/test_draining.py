@@ -123,11 +123,12 @@ def test_a_transfer_never_has_the_port_that_is_handed_over(scene) -> None:
     """A range that has the request port has one port less."""
     scene.make("a", b"ABC")
     first = free_ports(2)
-    server = scene.serve_at(scene.port(first), "--ports", f"{first}:{first + 1}", "--transfers", "3")
+    server = scene.serve_at(scene.port(first), "--ports", f"{first}:{first + 1}", "--transfers", "3", "--log")
     for _ in range(3):
         end = server.opens(rrq("a"), data(1, b"ABC"))
         expect(end.peer[1], first + 1, "the port of the transfer")
         end.send(ack(1))
+        server.closes("Complete")
     server.has_closed(*["Complete"] * 3)
 
 

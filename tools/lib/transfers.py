@@ -131,14 +131,10 @@ def at_server(site, built, put=True) -> None:
 # ---- tftpd
 
 def by_tftpd(scene, built, lossy) -> None:
-    each = len([it for it in EXAMPLES if built.has(it)])
-    # a request that is refused is no transfer
-    count = each * len(lengths(built, lossy)) + 3 * len(languages(built))
-    server = scene.serve(*(["--forever"] if lossy else ["--transfers", str(count)]))
+    # (a count of transfers would have one more where an answer comes late and the request is sent again)
+    server = scene.serve("--forever")
     at_server(Site("tftpd", scene, server, lossy), built)
     in_netascii(scene, built, server)
-    if not lossy:
-        expect(server.process.wait(PATIENCE), 0, "the status of tftpd")
 
 
 def languages(built) -> list[str]:
