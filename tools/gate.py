@@ -26,7 +26,7 @@ import manifest
 import wrong_bodies
 from lib.checks import CHECKS, ENDED, Check
 from lib.programs import TOP
-from lib.seeds import OTHERS, chosen
+from lib.seeds import OTHERS
 
 LACKING = set(os.environ.get("LACKING", "").split())
 
@@ -122,7 +122,7 @@ def main() -> int:
     if differ := manifest.differences(wanted, manifest.made(checks)):
         more = f", and {len(differ) - 20} more" if len(differ) > 20 else ""
         gate.faults.append("\n  ".join(["tools/manifest.txt is not as the repository is:", *differ[:20]]) + more)
-    few = chosen(wrong_bodies.bodies_in(wrong_bodies.OTHERS), wrong_bodies.FEW)
+    few = wrong_bodies.of_this_commit()
     print("wrong bodies beside those of each gate:", *few, flush=True)
     with wrong_bodies.tried_by_the_gate(few):
         lines, status = ran(["rt", "ci"])

@@ -2,11 +2,11 @@
 """Tries wrong bodies: wrong_bodies.py [--stale] [CRATE.. | CRATE/BODY..], or wrong_bodies.py --lines
 
 A wrong body is an edit of a crate that the prover has to refuse. Those in crates/NAME/must-fail/ are tried by each
-gate (`rt ci`), and beside them five of those in crates/NAME/wrong-bodies/, which the commit chooses. This tool tries
-the latter by `rt must-fail`, and tools/wrong_bodies.txt has a line for each: `gate`, or the commit by which it was last
-refused, which this tool writes there. Without names all of the second kind are tried, and with --stale only such as
-have changed since, or whose crate has, and such of which nothing is known. The status is 1 where a wrong body proves or
-cannot be read. With --lines only tools/wrong_bodies.txt is written anew.
+gate (`rt ci`), and beside them five of those in the wrong-bodies/ of one crate, which the commit chooses. This tool
+tries the latter by `rt must-fail`, and tools/wrong_bodies.txt has a line for each: `gate`, or the commit by which it
+was last refused, which this tool writes there. Without names all of the second kind are tried, and with --stale only
+such as have changed since, or whose crate has, and such of which nothing is known. The status is 1 where a wrong body
+proves or cannot be read. With --lines only tools/wrong_bodies.txt is written anew.
 """
 import re
 import shutil
@@ -19,6 +19,7 @@ from typing import Iterator, Sequence
 
 from lib.kit import below, repository_of
 from lib.programs import TOP, ran
+from lib.seeds import chosen
 
 PARTS = ("src", "specs", "proofs", "c")
 RECORD = TOP / "tools/wrong_bodies.txt"
@@ -27,7 +28,7 @@ RECORD = TOP / "tools/wrong_bodies.txt"
 GATE, OTHERS, EARLIER = "must-fail", "wrong-bodies", "slips"
 # what the list has in place of a commit
 UNKNOWN, BY_GATE = "-", "gate"
-# how many of the others each gate tries
+# how many of the others each gate tries, of one crate
 FEW = 5
 
 
@@ -44,6 +45,14 @@ def crate_of(body: str) -> str:
 def path_of(body: str) -> Path:
     crate, name = body.split("/")
     return next(TOP.glob(f"crates/{crate}/*/{name}.edit"))
+
+
+def of_this_commit() -> list[str]:
+    """Those that the gate tries at this commit. They are of one crate: the first one of a crate costs a proof of all of
+    the crate, and each further one a part of a minute."""
+    others = bodies_in(OTHERS)
+    crates = {*map(crate_of, chosen(others, 1))}
+    return chosen([body for body in others if crate_of(body) in crates], FEW)
 
 
 @contextmanager
