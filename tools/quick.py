@@ -10,7 +10,7 @@ import subprocess
 import sys
 import time
 
-from lib.kit import listed
+from lib.kit import below, listed
 from lib.programs import TOP
 
 # the tests of programs as processes that try a crate, below tests/
@@ -48,7 +48,9 @@ def try_crate(crate: str) -> None:
     for layer in [it for it in ("tests_parts", "tests_programs") if crate in [it, *listed()[it]]][:1]:
         step("rt try --test --seconds 300", layer)
     if crate in PROCESSES and not FAILED:
-        step("make --no-print-directory tftp tftpd")
+        # (a program that is built and does not have the crate is as it was)
+        step("make --no-print-directory " + " ".join(
+            it for it in ("tftp", "tftpd") if crate in below(f"{it}_main") or not (TOP / "bin" / it).is_file()))
         if not FAILED:
             step("pytest-3 -q -n 8 " + " ".join(f"tests/{path}" for path in PROCESSES[crate].split()))
 
