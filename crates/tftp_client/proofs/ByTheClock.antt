@@ -1,28 +1,24 @@
 -- The time of a client, by the readings of its clock.
-use Rattle.tftp_client.proofs.Common.{arith, ◌≡◌, ◌<◌, ◌≤◌, ◌⊎◌, ℕ, List, Some, inl, inr, refl, ap, ◌∙◌, ◌+◌, ◌-◌, ◌*◌}
-use Rattle.tftp_client.proofs.Common.{min, Asked, Kind, SinkMeaning, SourceMeaning, Files, wait_of, EndState, Position}
-use Rattle.tftp_client.proofs.Common.{outcome_of, Backoff, Waiting, last_moment, Watch, SocketEvent, QuietEvent, Job}
-use Rattle.tftp_client.proofs.Common.{Converses, HandlesReceived, IsOpen, IsReadBy, MayElapse, MayWait, State, elapsed}
-use Rattle.tftp_client.proofs.Common.{waited, Begins, Receives, Waits, Times, Rests, Answers, Loses, Stays, Elapses}
-use Rattle.tftp_client.proofs.Common.{begun, opens, seconds_in}
+use Rattle.std.proofs.Common.{rules}
+use Rattle.tftp_client.proofs.Common.{arith, ◌≡◌, ◌<◌, ◌≤◌, ◌⊎◌, ℕ, List, Some, inl, inr, ap, ◌+◌, ◌-◌, ◌*◌, Asked}
+use Rattle.tftp_client.proofs.Common.{Kind, SinkMeaning, SourceMeaning, Files, outcome_of, Backoff, Waiting}
+use Rattle.tftp_client.proofs.Common.{last_moment, Watch, SocketEvent, QuietEvent, Job, Converses, HandlesReceived}
+use Rattle.tftp_client.proofs.Common.{IsOpen, IsReadBy, MayElapse, MayWait, State, elapsed, waited, Begins, Receives}
+use Rattle.tftp_client.proofs.Common.{Waits, Times, Rests, Stays, Elapses, begun, opens, seconds_in}
 use Rattle.tftp_ends.specs.declared.outcome.Outcome.TheVariants.{TimedOut}
 use Rattle.tftp_client.specs.Seconds.{IsSteady, PassesWithTheClock, ReceivesNone, TimesOutByTheClock}
 use Rattle.tftp_client.proofs.Growing.{one_more, wait_least}
-use Rattle.tftp_client.proofs.Silent.{before_due, begins_now, closed_not, first_wait, times_out}
+use Rattle.tftp_client.proofs.Silent.{begins_now, closed_not, first_wait, times_out}
 
 -- ---- one reading
 -- the time advances as much as the clock, if that advances by a second at most
 reads_on : (s : State) (watch : Watch) → IsReadBy s watch → watch.reading ≤ s.reading + 1000 → watch.now < last_moment
     → watch.reading + s.now ≤ s.reading + watch.now
-reads_on s watch by steady early =
-    let time : watch.now ≡ min (s.now + min (watch.reading - s.reading) 1000) last_moment = by.time in
-    omega (arith, time, steady, early)
+reads_on s watch by steady early = search rules
 
 -- and never by more than a second
 pub reads_soon : (s : State) (watch : Watch) → IsReadBy s watch → watch.now ≤ s.now + 1000
-reads_soon s watch by =
-    let time : watch.now ≡ min (s.now + min (watch.reading - s.reading) 1000) last_moment = by.time in
-    omega (arith, time)
+reads_soon s watch by = search rules
 
 -- a timeout reads no clock
 pub record SameWatch (s next : State) : Type 0 where
@@ -30,15 +26,13 @@ pub record SameWatch (s next : State) : Type 0 where
   pub reading : next.reading ≡ s.reading
 
 pub same_elapses : {port : ℕ} {s next : State} → MayElapse port s next → SameWatch s next
-same_elapses (Stays why) = record { now = refl; reading = refl }
-same_elapses (Elapses due is_open) = record { now = refl; reading = refl }
+same_elapses h0 = search rules
 
 module _ {S K : Type 0} {sources : SourceMeaning S} {sinks : SinkMeaning K} where
   -- nor does a datagram
   pub same_handles : {port : ℕ} {from : _} {bytes : List ℕ} {s : State} {files : Files S K} {next : State}
       {files' : Files S K} → HandlesReceived sources sinks port from bytes s files next files' → SameWatch s next
-  same_handles (Answers is_open step) = record { now = refl; reading = refl }
-  same_handles (Loses lost keeps) = record { now = refl; reading = refl }
+  same_handles h0 = search rules
 
   -- ---- a run
   passes : {port : ℕ} {first : State} {file : Files S K} {s : State} {files : Files S K}
@@ -91,53 +85,12 @@ Alone backoff most s = (outcome_of s.end.position.phase ≡ Some TimedOut) ⊎ U
 
 after_wait : (backoff : Backoff) (most : ℕ) (s : State) (event : QuietEvent) (watch : Watch) → Unanswered backoff most s
     → MayWait s → IsReadBy s watch → s.now < last_moment → Unanswered backoff most (waited event watch s)
-after_wait backoff most s event watch h may later early =
-    let before = before_due backoff s h.used h.asked h.limit h.waiting h.grows h.counted may early in
-    let soon = reads_soon s watch later in
-    record {
-      asked = h.asked;
-      limit = h.limit;
-      waiting = h.waiting;
-      grows = h.grows;
-      used = h.used;
-      counted = h.counted;
-      due = h.due;
-      soon = omega (arith, before, soon);
-    }
+after_wait backoff most s event watch h may later early = search rules
 
 after_elapsed : (backoff : Backoff) (most port : ℕ) (s : State) → Unanswered backoff most s → s.deadline ≤ s.now
     → IsOpen s.end → s.now < last_moment → Alone backoff most (elapsed port s)
-after_elapsed backoff most port s h due is_open early = elim (times_out s.end h.asked h.limit h.waiting) [
-  | inl closed ↦ inl closed
-  | inr again ↦
-      let next = elapsed port s in
-      let left : next.end.position.retries_left ≡ s.end.position.retries_left - 1 =
-      ap (λ (p : Position). p.retries_left) again.1 in
-      let waiting = ap (λ (p : Position). p.phase) again.1 ∙ h.waiting in
-      let counted_before = h.counted in
-      let some = again.0 in
-      let counted : next.end.role.retries ≡ (h.used + 1) + next.end.position.retries_left =
-      omega (arith, counted_before, left, some) in
-      let is = begins_now backoff next (h.used + 1) h.asked h.limit waiting h.grows counted in
-      let first = one_more backoff 1 (h.used + 1) s.end.position.retries_left some in
-      let rest : seconds_in backoff 1 (h.used + 1 + 1) next.end.position.retries_left
-      ≡ seconds_in backoff 1 (h.used + 1 + 1) (s.end.position.retries_left - 1) =
-      ap (λ (n : ℕ). seconds_in backoff 1 (h.used + 1 + 1) n) left in
-      let least = wait_least backoff 1 (h.used + 1) in
-      let was = h.due in
-      let soon = h.soon in
-      inr
-      (record {
-        asked = h.asked;
-        limit = h.limit;
-        waiting = waiting;
-        grows = h.grows;
-        used = h.used + 1;
-        counted = counted;
-        due = omega (arith, is, left, some, first, rest, was, soon);
-        soon = omega (arith, is, least, early);
-      })
-]
+after_elapsed backoff most port s h due is_open early =
+    search (rules, times_out, elapsed, begins_now, one_more, seconds_in, wait_least)
 
 elapses : (backoff : Backoff) (most port : ℕ) {s next : State} → MayElapse port s next → s.now < last_moment
     → Alone backoff most s → Alone backoff most next
@@ -155,10 +108,7 @@ module _ {S K : Type 0} {sources : SourceMeaning S} {sinks : SinkMeaning K} wher
   alone backoff most (Waits {s} {event = event} {watch = watch} run may nothing later) none h early =
       let forward = later.forward in
       let before : s.now < last_moment = omega (arith, forward, early) in
-      elim (alone backoff most run none h before) [
-        | inl closed ↦ absurd (closed_not s.end TimedOut closed may.not_closed)
-        | inr unanswered ↦ inr (after_wait backoff most s event watch unanswered may later before)
-      ]
+      search (rules, closed_not, after_wait, alone backoff most run none h before)
   alone backoff most {port} (Times {s} {next} run timed) none h early =
       let now = (same_elapses timed).now in
       let before : s.now < last_moment = omega (arith, now, early) in
@@ -177,16 +127,7 @@ begins port reading kind job length before =
     let near = first.near in
     let few = first.few in
     let all_left = first.all_left in
-    inr (record {
-      asked = first.asked;
-      limit = first.limit;
-      waiting = first.waiting;
-      grows = refl;
-      used = 0;
-      counted = first.counted;
-      due = omega (arith, near, few, all_left);
-      soon = omega arith;
-    })
+    search rules
 
 module _ {S K : Type 0} (sources : SourceMeaning S) (sinks : SinkMeaning K) where
   pub passes_with_the_clock : PassesWithTheClock sources sinks

@@ -1,17 +1,14 @@
 -- The command line, subcommand by subcommand, and the job that its matches name.
-use Rattle.tftp_client.proofs.Common.{◌≡◌, Bool, true, List, Option, Some, None, refl, sym, ap, subst, ◌∙◌, same_Some}
-use Rattle.tftp_client.proofs.Common.{App, Kind, IsApp, Job, tftp_app}
-use Rattle.std.proofs.Common.{option_map}
-use Rattle.std.specs.Prelude.{◌||◌, Box}
+use Rattle.tftp_client.proofs.Common.{◌≡◌, true, List, Option, Some, refl, subst, App, Kind, IsApp, Job, tftp_app}
+use Rattle.std.proofs.Common.{option_map, rules}
+use Rattle.std.specs.Prelude.{Box}
 use Rattle.std.specs.Box.{box_value}
-use Rattle.std.proofs.lemmas.Option.{none-some}
 use Rattle.clap.specs.Built.{AddsSubcommand}
 use Rattle.clap.specs.Faults.{is_simple_and_free}
 use Rattle.clap.specs.Matches.{found_of}
-use Rattle.clap.specs.Simple.{app_of, is_simple, subcommand_rows, with_subcommand}
+use Rattle.clap.specs.Simple.{is_simple, subcommand_rows, with_subcommand}
 use Rattle.clap.specs.Walk.{Row, Text, rows_of}
 use Rattle.clap.specs.declared.builder.command.Command.{Command}
-use Rattle.clap.specs.declared.builder.command.Command.TheViews.{out-Command as fields_of}
 use Rattle.clap.specs.declared.parser.matches.ArgMatches.{ArgMatches}
 use Rattle.clap.specs.declared.parser.matches.ArgMatches.TheViews.{out-SubCommand}
 use Rattle.clap.specs.declared.parser.matches.SubCommand.{SubCommand}
@@ -31,13 +28,7 @@ free = refl
 -- a subcommand was added
 pub subcommand_added : {app below : App} {old sub new : Command} → IsApp app old → IsApp below sub
     → AddsSubcommand old sub new → IsApp (with_subcommand app below.top) new
-subcommand_added {below = below} {old = old} {sub = sub} is under adds =
-    record {
-      app_is = adds.shape under.is_local
-          ∙ (ap (λ (x : App). with_subcommand (app_of old) x.top) under.app_is
-          ∙ ap (λ (x : App). with_subcommand x below.top) is.app_is);
-      is_local = adds.globals ∙ (ap (λ (b : Bool). b || (fields_of sub).has_globals) is.is_local ∙ under.is_local);
-    }
+subcommand_added {below = below} {old = old} {sub = sub} is under adds = search rules
 
 -- the job of these matches, by their rows
 pub by_rows : {kind : Kind} (m : ArgMatches) {job : Job} → NamesJob kind (read_of m) job
@@ -49,17 +40,9 @@ module _ {Z : Type 0} where
   pub subcommand_met : (o : Option (Box SubCommand Z)) (word : Text) (rows : List Row)
       → Some word ≡ option_map (λ b. (out-SubCommand (box_value b)).name.now) o
       → Some rows ≡ option_map (λ p. p.1) (subcommand_rows o) → subcommand_rows o ≡ Some (word, rows)
-  subcommand_met None word rows named has = absurd (none-some word (sym named))
-  subcommand_met (Some b) word rows named has =
-      let name : (out-SubCommand (box_value b)).name.now ≡ word = sym (same_Some _ _ named) in
-      let rows_are : rows_of (found_of (out-SubCommand (box_value b)).matches) ≡ rows = sym (same_Some _ _ has) in
-      ap (λ (w : Text). Some (w, rows_of (found_of (out-SubCommand (box_value b)).matches))) name
-      ∙ ap (λ (r : List Row). Some (word, r)) rows_are
+  subcommand_met o word rows named has = search rules
 
 -- the job of the subcommand
 pub names_by : (met : Option (Text × List Row)) {word : Text} {rows : List Row} {kind : Kind} {job : Job}
     → met ≡ Some (word, rows) → NamesJob kind (read_in rows) job → kind ≡ kind_named word → NamesBy met job
-names_by met {word} {rows} {kind} {job} is h named =
-    let At : Option (Text × List Row) → Type 0 = λ o. NamesBy o job in
-    let Of : Kind → Type 0 = λ k. NamesJob k (read_in rows) job in
-    subst At (sym is) (subst Of named h)
+names_by met {word} {rows} {kind} {job} is h named = search rules

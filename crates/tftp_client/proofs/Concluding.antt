@@ -1,5 +1,6 @@
 -- A transfer that is complete, from the run of its end.
-use Rattle.tftp_client.proofs.Common.{◌≡◌, ℕ, Bool, List, Some, inl, inr, refl, sym, subst, ◌∙◌, ◌+◌, Octet, Kind}
+use Rattle.std.proofs.Common.{rules}
+use Rattle.tftp_client.proofs.Common.{◌≡◌, ℕ, Bool, List, Some, inl, inr, refl, sym, subst, ◌+◌, Octet, Kind}
 use Rattle.tftp_client.proofs.Common.{SinkMeaning, SourceMeaning, Files, Source, Sink, DiskEvent, DiskSource}
 use Rattle.tftp_client.proofs.Common.{SocketEvent, waits, LocalFile, Job, Converses, State, Keeps, KeepsPlace}
 use Rattle.tftp_client.proofs.Common.{nothing_moved, run_moves, IsFor, job_paths, IsFileOf, IsNew, MayOpen, begun}
@@ -9,7 +10,6 @@ use Rattle.std.specs.declared.io.traits.Write as write
 use Rattle.std.specs.declared.io.traits.Seek as seek
 use Rattle.tftp_negotiate.specs.declared.known.Kind.TheVariants as kinds
 use Rattle.tftp_disk.specs.declared.disk.Looks as looks
-use Rattle.tftp_client.specs.Fetched.{AreOwn}
 use Rattle.tftp_client.specs.OnDisk.{IsOnDisk, KeepsDisk, Reaches}
 use Rattle.tftp_client.specs.Runs.{Refused, dallied}
 use Rattle.tftp_client.specs.Sent.{BeginsAt, Concludes, EndStores, JobStores}
@@ -22,27 +22,18 @@ use Rattle.tftp_client.proofs.SameKind.{converses}
 
 -- ---- what a job asks of the disk
 pub keeps_none : (job : Job) (before after : List DiskEvent) → after ≡ before → KeepsDisk job before after
-keeps_none job before after same =
-    record {
-      own = λ own. subst (λ (l : List DiskEvent). AreOwn (job_paths job) l) (sym same) own;
-      put = λ write. same;
-    }
+keeps_none job before after same = search rules
 
 pub keeps_got : (job : Job) (before after : List DiskEvent) → job.kind ≡ kinds.Read → Keeps (job_paths job) before after
     → KeepsDisk job before after
-keeps_got job before after is keeps =
-    record {
-      own = keeps.own;
-      put = λ write. absurd (let e : ◌≡◌ {A = Kind} kinds.Read kinds.Write = sym is ∙ write in cc);
-    }
+keeps_got job before after is keeps = search rules
 
 module _ {F K : Type 0} (sources : SourceMeaning (DiskSource F)) (sinks : SinkMeaning K) where
   -- ---- of a job
   pub end_job : {status most : ℕ} (job : Job) {kind : Kind} {before after : List SocketEvent} {calls : List DiskEvent}
       → job.kind ≡ kind → EndStores sources sinks status most kind job before after calls
       → EndStores sources sinks status most job.kind job before after calls
-  end_job {status} {most} job {kind} {before} {after} {calls} is stores =
-      subst (λ (k : Kind). EndStores sources sinks status most k job before after calls) (sym is) stores
+  end_job {status} {most} job {kind} {before} {after} {calls} is stores = rw (sym is) at stores
 
   -- a file that is sent is on the disk
   put_on_disk : (job : Job) (files : Files (DiskSource F) K) (bytes : List ℕ) (calls : List DiskEvent)

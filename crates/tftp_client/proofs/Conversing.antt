@@ -1,13 +1,11 @@
 -- What a client does at an event, from the facts of its calls, and runs one after another.
-use Rattle.tftp_client.proofs.Common.{arith, ◌≡◌, ◌≤◌, ℕ, Bool, true, false, List, ◌∷◌, Option, Some, None, Result, Ok}
-use Rattle.tftp_client.proofs.Common.{Err, IsSome, inl, inr, refl, sym, ap, subst, ◌∙◌, true≢false, Packet, SinkMeaning}
-use Rattle.tftp_client.proofs.Common.{SourceMeaning, Files, Kind, Write, datagram_action, Backoff, EndState, outcome_of}
-use Rattle.tftp_client.proofs.Common.{timeout_turn, Endpoint, Outcome, Watch, Job, AnswersReceived, Converses}
-use Rattle.tftp_client.proofs.Common.{HandlesReceived, IsOpen, MayElapse, IsReadBy, State, deadline_at, Answers, Loses}
-use Rattle.tftp_client.proofs.Common.{Stays, Elapses, Begins, Receives, Waits, Times, Rests, begun, opens, SocketEvent}
-use Rattle.tftp_client.proofs.Common.{waits}
+use Rattle.tftp_client.proofs.Common.{arith, ◌≡◌, ◌≤◌, ℕ, List, Option, None, Result, Ok, Err, IsSome, inl, inr, refl}
+use Rattle.tftp_client.proofs.Common.{sym, subst, ◌∙◌, true≢false, Packet, SinkMeaning, SourceMeaning, Files, Kind}
+use Rattle.tftp_client.proofs.Common.{Write, datagram_action, Backoff, EndState, outcome_of, Endpoint, Watch, Job}
+use Rattle.tftp_client.proofs.Common.{Converses, IsOpen, MayElapse, IsReadBy, State, deadline_at, Begins, Receives}
+use Rattle.tftp_client.proofs.Common.{Waits, Times, Rests, begun, opens, SocketEvent, waits}
 use Rattle.std.proofs.Common.{IsErrOf, ◌↔◌}
-use Rattle.std.proofs.Common.{option_map}
+use Rattle.std.proofs.Common.{option_map, rules}
 use Rattle.tftp_negotiate.specs.declared.known.Kind.TheVariants.{Read}
 use Rattle.tftp_ends.specs.Action.{Decodes}
 use Rattle.tftp_ends.specs.Step.{Reply, UsesFile, reply_bytes}
@@ -17,19 +15,13 @@ use Rattle.tftp_sockets.specs.Watch.{later_by}
 use Rattle.tftp_client.specs.Converses.{IsLost}
 use Rattle.tftp_client.specs.Converses.{watch_of}
 use Rattle.tftp_sockets.specs.Trace.{answered, replied}
-use Rattle.tftp_sockets.specs.Trace.SocketEvent.{Elapsed, Sent}
 
 -- the answer that a call lends was sent to its destination
 pub replies : (port : ℕ) (reply : Option Reply) {to : Option Endpoint} {bytes : List ℕ}
     {events before after : List SocketEvent}
     → after ≡ replied port to bytes events → to ≡ option_map (λ (r : Reply). r.to) reply → bytes ≡ reply_bytes reply
     → events ≡ before → after ≡ answered port reply before
-replies port None {to} {bytes} {events} sent goes lends noted =
-    sent ∙ (ap (λ (t : Option Endpoint). replied port t bytes events) goes ∙ noted)
-replies port (Some reply) {to} {bytes} {events} sent goes lends noted =
-    sent ∙ (ap (λ (t : Option Endpoint). replied port t bytes events) goes
-    ∙ (ap (λ (b : List ℕ). Sent port reply.to b ∷ events) lends
-    ∙ ap (λ (es : List SocketEvent). Sent port reply.to reply.bytes ∷ es) noted))
+replies port reply sent goes lends noted = search rules
 
 -- a state with these fields is that state
 pub state_is : {e e' : EndState} {now now' read read' due due' : ℕ} {backoff : Backoff} {events events' : List SocketEvent}
@@ -37,16 +29,14 @@ pub state_is : {e e' : EndState} {now now' read read' due due' : ℕ} {backoff :
     → ◌≡◌ {A = State}
     (record { end = e; now = now; reading = read; deadline = due; backoff = backoff; events = events })
     (record { end = e'; now = now'; reading = read'; deadline = due'; backoff = backoff; events = events' })
-state_is {backoff = backoff} p q o r t =
-    λ i. record { end = p i; now = q i; reading = o i; deadline = r i; backoff = backoff; events = t i }
+state_is {backoff = backoff} p q o r t = search rules
 
 -- the same, where the backoff is as it was
 pub state_with : {b b' : Backoff} {e e' : EndState} {now now' read read' due due' : ℕ} {events events' : List SocketEvent}
     → b ≡ b' → e ≡ e' → now ≡ now' → read ≡ read' → due ≡ due' → events ≡ events'
     → ◌≡◌ {A = State} (record { end = e; now = now; reading = read; deadline = due; backoff = b; events = events })
     (record { end = e'; now = now'; reading = read'; deadline = due'; backoff = b'; events = events' })
-state_with b p q o r t =
-    λ i. record { end = p i; now = q i; reading = o i; deadline = r i; backoff = b i; events = t i }
+state_with b p q o r t = search rules
 
 -- a reading of the clock
 pub read_by : (s : State) (watch : Watch) {time : ℕ} → watch.now ≡ time → time ≡ later_by (watch_of s) watch.reading
@@ -66,23 +56,13 @@ pub lost : {R : Type 0} (fault : EndFault) (from : Endpoint) (bytes : List ℕ) 
 lost Closed from bytes e closed memory = inl (closed.0 refl)
 lost Memory from bytes e closed memory = inr (memory refl)
 
--- ---- waits
--- an answer is no wait
-waits_answered : (port : ℕ) (reply : Option Reply) (events : List SocketEvent)
-    → waits (answered port reply events) ≡ waits events
-waits_answered port None events = refl
-waits_answered port (Some reply) events = refl
-
 -- nor is a timeout
 pub waits_elapsed : {port : ℕ} {s next : State} → MayElapse port s next → waits next.events ≡ waits s.events
-waits_elapsed (Stays why) = refl
-waits_elapsed {port} {s} (Elapses due is_open) = waits_answered port (timeout_turn s.end).reply
-    (Elapsed port s.now ∷ s.events)
+waits_elapsed h0 = search rules
 
 -- an end without an outcome is open
 pub none_open : (e : EndState) → outcome_of e.position.phase ≡ None → IsOpen e
-none_open e none = let Not : Option Outcome → Type 0 = λ o. IsSome o → ⊥ in
-    subst Not (sym none) (λ some. true≢false (sym some))
+none_open e none = search rules
 
 -- the end of a job is open when its request is sent
 pub opens_open : (kind : Kind) (job : Job) (length : ℕ) → IsOpen (opens kind job length)
@@ -96,8 +76,7 @@ begun_open backoff port reading e before is is_open = let Of : State → Type 0 
 
 pub begun_ready : {s : State} (backoff : Backoff) (port reading : ℕ) (e : EndState) (before : List SocketEvent)
     → s ≡ begun backoff port reading e before → s.deadline ≡ deadline_at s.backoff s.now s.end
-begun_ready backoff port reading e before is =
-    let Of : State → Type 0 = λ t. t.deadline ≡ deadline_at t.backoff t.now t.end in subst Of (sym is) refl
+begun_ready backoff port reading e before is = search rules
 
 -- a timeout that was refused: the end is closed
 pub is_closed : {R P : Type 0} (fault : EndFault) → (IsErrOf {T = R} (Err fault) Closed ↔ P)
@@ -125,16 +104,3 @@ module _ {S K : Type 0} {sources : SourceMeaning S} {sinks : SinkMeaning K} wher
       → Converses sources sinks port first file next files'
   onward_at {s = s} {files = files} {next = next} {files' = files'} before same after =
       let Of : ℕ → Type 0 = λ p. Converses sources sinks p s files next files' in onward before (subst Of same after)
-
-  -- a datagram is no wait
-  pub waits_handled : {port : ℕ} {from : Endpoint} {bytes : List ℕ} {s : State} {files : Files S K} {next : State}
-      {files' : Files S K}
-      → HandlesReceived sources sinks port from bytes s files next files' → waits next.events ≡ waits s.events
-  waits_handled {port} {s = s} (Answers {turn} is_open step) = waits_answered port turn.reply s.events
-  waits_handled (Loses lost keeps) = refl
-
-  -- nor is a reading of the clock
-  pub waits_received : {port : ℕ} {from : Endpoint} {bytes : List ℕ} {s : State} {files : Files S K} {after : State}
-      {files' : Files S K}
-      → AnswersReceived sources sinks port from bytes s files after files' → waits after.events ≡ waits s.events
-  waits_received answers = ap (λ (t : State). waits t.events) answers.is ∙ waits_handled answers.handles

@@ -1,7 +1,8 @@
 -- N of a complete transfer, from its file and the length with which its end was opened.
-use Rattle.tftp_client.proofs.Common.{◌≡◌, ℕ, List, Some, refl, ◌∙◌, Mode, Octet, Netascii, Kind, SinkMeaning}
-use Rattle.tftp_client.proofs.Common.{SourceMeaning, Files, Source, Sink, SocketEvent, LocalFile, Job, State, IsCountOf}
-use Rattle.tftp_client.proofs.Common.{IsFileOf, MayOpen, RunsAs, opens, held_of}
+use Rattle.std.proofs.Common.{rules}
+use Rattle.tftp_client.proofs.Common.{◌≡◌, ℕ, List, Some, Mode, Octet, Kind, SinkMeaning, SourceMeaning, Files}
+use Rattle.tftp_client.proofs.Common.{SocketEvent, LocalFile, Job, State, IsCountOf, IsFileOf, MayOpen, RunsAs, opens}
+use Rattle.tftp_client.proofs.Common.{held_of}
 use Rattle.std.specs.declared.io.traits.Read as read
 use Rattle.std.specs.declared.io.traits.Write as write
 use Rattle.std.specs.declared.io.traits.Seek as seek
@@ -17,10 +18,7 @@ module _ {S : Type 0} {D F V G : Type 0} {logs : looks.Ghosts D} {writes : write
       → (mode : Mode) (sent length : ℕ) (files : Files S (LocalFile D F V G logs writes views reads seeks)) (count : ℕ)
       → (mode ≡ Octet → sent ≡ length) → count ≡ count_of sent files
       → IsCountOf sources sinks files mode length count
-  counts sources sinks known mode sent length (Sink local) count same is =
-      (held_of local.part.written local.committed, known local, is ∙ local.counts)
-  counts sources sinks known Octet sent length (Source source) count same is = is ∙ same refl
-  counts sources sinks known Netascii sent length (Source source) count same is = tt
+  counts sources sinks known mode sent length files count same is = search rules
 
   -- the run of an end that a job opens, with N of its file
   abbrev pub runs_as : (sources : SourceMeaning S) (sinks : SinkMeaning (LocalFile D F V G logs writes views reads seeks))

@@ -1,17 +1,16 @@
 -- What a received file holds is what moved in the run, unless the end has failed.
-use Rattle.tftp_client.proofs.Common.{◌≡◌, ℕ, Bool, true, false, List, [], ◌∷◌, ◌++◌, append-nil, length, Option, Some}
-use Rattle.tftp_client.proofs.Common.{Result, Ok, Err, inl, inr, refl, sym, ap, ◌∙◌, subst, nat_lt, true≢false}
-use Rattle.tftp_client.proofs.Common.{same_Some, Mode, Kind, Holding, SinkMeaning, Appends, AppendsFreely, Commits}
-use Rattle.tftp_client.proofs.Common.{CommitsFreely, UnlessArmed, disarmed, SourceMeaning, StaysKnown, StoreFault, Full}
-use Rattle.tftp_client.proofs.Common.{Files, Source, Sink, Action, Respond, Send, Store, Endpoint, Phase, Waiting}
-use Rattle.tftp_client.proofs.Common.{Sending, Receiving, Dallying, Closed, Terms, datagram_action, EndState}
-use Rattle.tftp_client.proofs.Common.{is_complete, outcome_of, KeepsFiles, KeepsHolding, Acts, Appended, DatagramStep}
-use Rattle.tftp_client.proofs.Common.{Done, GoesOn, Turn, after_turn, SocketEvent, Job, Converses, HandlesReceived}
-use Rattle.tftp_client.proofs.Common.{MayElapse, State, WorksOnFile, Begins, Receives, Waits, Times, Rests, Answers}
-use Rattle.tftp_client.proofs.Common.{Loses, Stays, Elapses, Moved, acts_move, handling_moves, nothing_moved, run_moves}
-use Rattle.tftp_client.proofs.Common.{IsCountOf, IsNew, RunsAs, Transfers}
+use Rattle.std.proofs.Common.{rules}
+use Rattle.tftp_client.proofs.Common.{◌≡◌, ℕ, Bool, true, false, List, [], ◌++◌, length, Option, Some, Result, Ok, Err}
+use Rattle.tftp_client.proofs.Common.{inl, inr, refl, sym, subst, nat_lt, Mode, Kind, Holding, SinkMeaning}
+use Rattle.tftp_client.proofs.Common.{AppendsFreely, UnlessArmed, SourceMeaning, StoreFault, Files, Source, Sink}
+use Rattle.tftp_client.proofs.Common.{Action, Respond, Send, Store, Endpoint, Phase, Waiting, Sending, Receiving}
+use Rattle.tftp_client.proofs.Common.{Dallying, Closed, Terms, datagram_action, EndState, is_complete, outcome_of}
+use Rattle.tftp_client.proofs.Common.{KeepsFiles, Acts, Appended, DatagramStep, Done, GoesOn, Turn, after_turn}
+use Rattle.tftp_client.proofs.Common.{SocketEvent, Job, Converses, HandlesReceived, MayElapse, State, WorksOnFile}
+use Rattle.tftp_client.proofs.Common.{Begins, Receives, Waits, Times, Rests, Answers, Loses, Moved, acts_move}
+use Rattle.tftp_client.proofs.Common.{handling_moves, nothing_moved, run_moves, IsCountOf, IsNew, RunsAs, Transfers}
 use Rattle.std.specs.Prelude.{not, IsSome}
-use Rattle.tftp_file.specs.Sink.{as_committed, with_piece}
+use Rattle.tftp_file.specs.Sink.{with_piece}
 use Rattle.tftp_client.specs.Moved.{step_moves}
 use Rattle.tftp_client.specs.Runs.{IsWhole, moved_by}
 use Rattle.tftp_client.specs.Taken.{nothing}
@@ -26,18 +25,10 @@ failed (Dallying terms number dally) = false
 failed (Closed terms number complete outcome) = not complete
 
 pub open_goes_on : (phase : Phase) → (IsSome (outcome_of phase) → ⊥) → failed phase ≡ false
-open_goes_on (Waiting asked limit) is_open = refl
-open_goes_on (Sending terms number) is_open = refl
-open_goes_on (Receiving terms number) is_open = refl
-open_goes_on (Dallying terms number dally) is_open = refl
-open_goes_on (Closed terms number complete outcome) is_open = absurd (is_open refl)
+open_goes_on phase is_open = search rules
 
 pub complete_goes_on : (phase : Phase) → is_complete phase ≡ true → failed phase ≡ false
-complete_goes_on (Waiting asked limit) done = refl
-complete_goes_on (Sending terms number) done = refl
-complete_goes_on (Receiving terms number) done = refl
-complete_goes_on (Dallying terms number dally) done = refl
-complete_goes_on (Closed terms number complete outcome) done = ap not done
+complete_goes_on phase done = search rules
 
 pub undone : (b : Bool) → (b ≡ true → ⊥) → b ≡ false
 undone true never = absurd (never refl)
@@ -47,17 +38,7 @@ undone false never = refl
 appended : (armed : Bool) (before : Holding) (after : Option Holding) (piece : List ℕ) (done : Done)
     → UnlessArmed armed before after (Ok done) (AppendsFreely before after piece (Ok done))
     → after ≡ Some (with_piece before piece)
-appended true before after piece done h = absurd (let e : ◌≡◌ {A = Result Done StoreFault} (Ok done) (Err Full) =
-    h.answer in cc)
-appended false before after piece done h = h
-
--- a commit leaves the bytes
-committed : (armed : Bool) (before : Holding) (after : Option Holding) (answer : Result Done StoreFault)
-    → UnlessArmed armed before after answer (CommitsFreely before after answer)
-    → (holding : Holding) × (after ≡ Some holding) × (holding.bytes ≡ before.bytes)
-committed true before after answer h = (disarmed before, h.leaves, refl)
-committed false before after (Ok done) h = (as_committed before, h, refl)
-committed false before after (Err fault) h = (before, h, refl)
+appended armed before after piece done h = search rules
 
 module _ {S K : Type 0} (sources : SourceMeaning S) (sinks : SinkMeaning K) where
   abbrev pub Holds : K → List ℕ → Type 0
@@ -73,24 +54,13 @@ module _ {S K : Type 0} (sources : SourceMeaning S) (sinks : SinkMeaning K) wher
 
   pub appends : (bytes : List ℕ) (sink mid : K) (done : Done) (old : List ℕ) → Appended sinks bytes sink mid (Ok done)
       → Holds sink old → Holds mid (old ++ bytes)
-  appends [] sink mid done old a h =
-      subst (λ (k : K). Holds k (old ++ [])) (sym a.1)
-      (subst (λ (bytes : List ℕ). Holds sink bytes) (sym (append-nil old)) h)
-  appends (b ∷ bytes) sink mid done old a h =
-      let Of : Option Holding → Type 0 = λ held. Appends {A = Done} held (sinks.held mid) (b ∷ bytes) (Ok done) in
-      let after = appended h.0.refuses h.0 (sinks.held mid) (b ∷ bytes) done (subst Of h.1 a.0) in
-      (with_piece h.0 (b ∷ bytes), after, ap (λ (t : List ℕ). t ++ (b ∷ bytes)) h.2)
+  appends bytes sink mid done old a h = search rules
 
   -- the end went on after it
   pub goes : (terms : Terms) (number : ℕ) (from : Endpoint) (e : EndState) (last : Bool) (after : List ℕ) (mid : K)
       (done : Done) (turn : Turn) (sink' : K) (bytes : List ℕ)
       → GoesOn sinks terms number from e last after mid (Ok done) turn sink' → Holds mid bytes → Holds sink' bytes
-  goes terms number from e true after mid done turn sink' bytes g h =
-      let Of : Option Holding → Type 0 = λ held. Commits held (sinks.held sink') g.answer in
-      let c = committed h.0.refuses h.0 (sinks.held sink') g.answer (subst Of h.1 g.commits) in
-      (c.0, c.1, c.2 ∙ h.2)
-  goes terms number from e false after mid done turn sink' bytes g h =
-      subst (λ (k : K). Holds k bytes) (sym g.1) h
+  goes terms number from e last after mid done turn sink' bytes g h = search rules
 
   -- it failed, if the append was refused
   stored : (terms : Terms) (number : ℕ) (from : Endpoint) (e : EndState) (last : Bool) (after : List ℕ) (sink mid : K)
@@ -99,13 +69,9 @@ module _ {S K : Type 0} (sources : SourceMeaning S) (sinks : SinkMeaning K) wher
       → Appended sinks bytes sink mid answer → GoesOn sinks terms number from e last after mid answer turn sink'
       → Holds sink old → Holds sink' (old ++ bytes)
   stored terms number from e last after sink mid (Ok done) turn sink' old bytes before still a g h =
-      goes terms number from e last after mid done turn sink' (old ++ bytes) g (appends bytes sink mid done old a h)
-  stored terms number from e true after sink mid (Err fault) turn sink' old bytes before still a g h =
-      let over : failed turn.position.phase ≡ true = ap (λ (t : Turn). failed t.position.phase) g.0 ∙ ap not before in
-      absurd (true≢false (sym over ∙ still))
-  stored terms number from e false after sink mid (Err fault) turn sink' old bytes before still a g h =
-      let over : failed turn.position.phase ≡ true = ap (λ (t : Turn). failed t.position.phase) g.0 ∙ ap not before in
-      absurd (true≢false (sym over ∙ still))
+      goes _ _ _ e _ _ _ _ _ _ _ g (appends _ _ _ _ _ a h)
+  stored terms number from e true after sink mid (Err fault) turn sink' old bytes before still a g h = search rules
+  stored terms number from e false after sink mid (Err fault) turn sink' old bytes before still a g h = search rules
 
   acts : (action : Action) (from : Endpoint) (bytes : List ℕ) (e : EndState) (files : Files S K) (turn : Turn)
       (files' : Files S K) (moved : Moved) → (is_complete e.position.phase ≡ true → StoresNone action)
@@ -128,30 +94,15 @@ module _ {S K : Type 0} (sources : SourceMeaning S) (sinks : SinkMeaning K) wher
       → Unless_failed (after_turn e turn) files'
       (step_moves sources sinks from bytes e files turn files' step moved)
   steps from bytes e files turn files' moved h step =
-      acts (datagram_action e from bytes step.decoded) from bytes e files turn files' moved
-      (datagram_stores_none e from bytes step.decoded) h step.acts
-
-  -- what is known of a sink stays
-  pub stays : (before after : K) (bytes : List ℕ)
-      → ((held : Holding) → sinks.held before ≡ Some held → sinks.held after ≡ Some held)
-      → Holds before bytes → Holds after bytes
-  stays before after bytes same h = (h.0, same h.0 h.1, h.2)
+      search (rules, acts, datagram_action, datagram_stores_none)
 
   pub loses : (files files' : Files S K) (bytes : List ℕ) → KeepsFiles sources sinks files files' → AllHeld files bytes
       → AllHeld files' bytes
-  loses files (Source source') bytes keeps h = tt
-  loses (Source source) (Sink sink') bytes keeps h = absurd keeps
-  loses (Sink sink) (Sink sink') bytes keeps h =
-      let Of : Option Holding → Type 0 = λ held. KeepsHolding held (sinks.held sink') in
-      stays sink sink' bytes (λ held is. subst Of is keeps.holding) h
+  loses files files' bytes keeps h = search rules
 
   pub works : (files files' : Files S K) (bytes : List ℕ) → WorksOnFile sources sinks files files' → AllHeld files bytes
       → AllHeld files' bytes
-  works files (Source source') bytes work h = tt
-  works (Source source) (Sink sink') bytes work h = absurd work
-  works (Sink sink) (Sink sink') bytes work h =
-      let Of : Option Holding → Type 0 = λ held. StaysKnown held (sinks.held sink') in
-      stays sink sink' bytes (λ held is. subst Of is work.0.held) h
+  works files files' bytes work h = search rules
 
   handles : {port : ℕ} {from : Endpoint} {bytes : List ℕ} {s : State} {files : Files S K} {next : State}
       {files' : Files S K} (moved : Moved) (h : HandlesReceived sources sinks port from bytes s files next files')
@@ -163,8 +114,7 @@ module _ {S K : Type 0} (sources : SourceMeaning S) (sinks : SinkMeaning K) wher
 
   elapses : {port : ℕ} {s next : State} (files : Files S K) (moved : Moved) → MayElapse port s next
       → Unless_failed s.end files moved → Unless_failed next.end files moved
-  elapses files moved (Stays why) h = h
-  elapses {s = s} files moved (Elapses due is_open) h = λ still. h (open_goes_on s.end.position.phase is_open)
+  elapses files moved h2 h = search rules
 
   converses : {port : ℕ} {first : State} {file : Files S K} {s : State} {files : Files S K} (moved : Moved)
       (run : Converses sources sinks port first file s files)
@@ -188,25 +138,14 @@ module _ {S K : Type 0} (sources : SourceMeaning S) (sinks : SinkMeaning K) wher
     -- the file holds all that moved, and N counts it
     all_counted : (files : Files S K) (mode : Mode) (sent count : ℕ) (bytes : List ℕ) → AllHeld files bytes
         → Kept sources sinks known files → IsCountOf sources sinks files mode sent count → IsWhole sources sinks files count bytes
-    all_counted (Source source) mode sent count bytes h kept counts = tt
-    all_counted (Sink sink) mode sent count bytes h kept counts =
-        let same : h.0 ≡ kept.0 = same_Some h.0 kept.0 (sym h.1 ∙ kept.1) in
-        let counted : h.0 ≡ counts.0 = same_Some h.0 counts.0 (sym h.1 ∙ counts.1) in (
-          h.0,
-          h.1,
-          ap (λ (held : Holding). held.committed) same ∙ kept.2,
-          h.2,
-          counts.2 ∙ (ap (λ (held : Holding). length held.bytes) (sym counted) ∙ ap length h.2),
-        )
+    all_counted files mode sent count bytes h kept counts = search rules
 
     pub run_whole : {port : ℕ} {kind : Kind} {job : Job} {before : List SocketEvent} {s : State} {files : Files S K} {count : ℕ}
         (run : RunsAs sources sinks port kind job before s files count) → is_complete s.end.position.phase ≡ true
         → IsWhole sources sinks files count (run_moves run.runs.converses nothing_moved).bytes
     run_whole {job = job} {s = s} {files = files} {count = count} run done =
-        all_counted files job.mode run.length count (run_moves run.runs.converses nothing_moved).bytes
-        (converses nothing_moved run.runs.converses (λ _. begins run.runs.file run.runs.new)
-        (complete_goes_on s.end.position.phase done))
-        (is_committed sources sinks known run done) run.counts
+        all_counted _ _ _ _ _ (converses _ run.runs.converses (λ _. begins _ run.runs.new) (complete_goes_on _ done))
+        (is_committed _ _ known run done) run.counts
 
     -- of a job that is complete
     pub is_whole : {most port : ℕ} {job : Job} {before : List SocketEvent} {s : State} {files : Files S K} {count : ℕ}

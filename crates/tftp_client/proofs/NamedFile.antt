@@ -1,10 +1,10 @@
 -- A fetched file got its name, and the folder of that was synced.
-use Rattle.tftp_client.proofs.Common.{◌≡◌, ℕ, Bool, true, false, List, ◌∷◌, Option, Some, None, Result, Ok, Err, OnOk}
-use Rattle.tftp_client.proofs.Common.{length, arith, inl, inr, sym, ap, ◌∙◌, subst, ∥∥₁_map, Error, DiskEvent}
-use Rattle.tftp_client.proofs.Common.{FileState, Folder_synced, Linked, SyncsFolder, path_in, IsStillAt, Keeps}
-use Rattle.tftp_client.proofs.Common.{NamesBytes, Paths, WasNamed}
+use Rattle.std.proofs.Common.{rules}
+use Rattle.tftp_client.proofs.Common.{◌≡◌, ℕ, Bool, false, List, ◌∷◌, Option, Some, None, Result, Ok, Err, OnOk, length}
+use Rattle.tftp_client.proofs.Common.{arith, inl, inr, sym, ap, ◌∙◌, ∥∥₁_map, Error, DiskEvent, FileState}
+use Rattle.tftp_client.proofs.Common.{Folder_synced, Linked, SyncsFolder, path_in, IsStillAt, Keeps, NamesBytes, Paths}
+use Rattle.tftp_client.proofs.Common.{WasNamed}
 use Rattle.tftp_disk.specs.Changes.{changes}
-use Rattle.tftp_disk.specs.DiskTrace.{Done, folder_at}
 use Rattle.tftp_disk.specs.NamedFolder.{SyncsAlone}
 use Rattle.tftp_disk.specs.declared.disk_file.DiskFolder.{DiskFolder}
 use Rattle.tftp_client.specs.Fetched.{IsWholeAt, KeepsOne, NamesFile, SyncsIn}
@@ -24,15 +24,7 @@ folder_later None paths before after keeps fits = ∥∥₁_map fits keeps.barre
 synced_in : {F : Type 0} (folder : Option (DiskFolder F)) (path : List ℕ) (all : List DiskEvent)
     → IsFolderIn path folder all → (before after : List DiskEvent) → SyncsFolder folder before after
     → SyncsIn path all before after
-synced_in (Some folder) path all fits before after syncs =
-    inl (
-      fits.0,
-      syncs.0,
-      fits.1,
-      syncs.1,
-      syncs.2 ∙ ap (λ (at : Option (List ℕ)). Folder_synced at syncs.0 ∷ before) fits.2,
-    )
-synced_in None path all fits before after syncs = inr (fits, syncs)
+synced_in folder path all fits before after syncs = search rules
 
 -- a sync by the calls that it may have made
 no_longer : (event : DiskEvent) (before after : List DiskEvent) → after ≡ event ∷ before → after ≡ before → ⊥
@@ -42,56 +34,31 @@ no_longer event before after longer same =
 pub synced_all : {F : Type 0} (folder : Option (DiskFolder F)) (before after : List DiskEvent)
     → SyncsAlone folder before after → SyncsFolder folder (changes before) (changes after)
     → SyncsFolder folder before after
-synced_all (Some folder) before after (inl same) syncs =
-    absurd (no_longer (Folder_synced (folder_at folder.trace.events) syncs.0) (changes before) (changes after) syncs.2
-    (ap changes same))
-synced_all (Some folder) before after (inr (answer, noted)) syncs =
-    let at = folder_at folder.trace.events in
-    let one : ◌≡◌ {A = List DiskEvent} (Folder_synced at answer ∷ changes before) (Folder_synced at syncs.0 ∷ changes before) =
-    sym (ap changes noted) ∙ syncs.2 in
-    let same : answer ≡ syncs.0 = cc one in
-    (syncs.0, syncs.1, noted ∙ ap (λ (a : Done). Folder_synced at a ∷ before) same)
+synced_all (Some folder) before after (inl same) syncs = absurd (no_longer _ _ _ syncs.2 (ap changes same))
+synced_all (Some folder) before after (inr (answer, noted)) syncs = search rules
 synced_all None before after (inl same) syncs = same
-synced_all None before after (inr (answer, noted)) syncs =
-    absurd (no_longer (Folder_synced None answer) (changes before) (changes after) (ap changes noted) syncs)
+synced_all None before after (inr (answer, noted)) syncs = absurd (no_longer _ _ _ (ap changes noted) syncs)
 
 pub unsynced_all : {F : Type 0} (folder : Option (DiskFolder F)) (before after : List DiskEvent) (error : Error)
     → SyncsAlone folder before after
     → changes after ≡ Folder_synced (path_in folder) (Err error) ∷ changes before
     → after ≡ Folder_synced (path_in folder) (Err error) ∷ before
-unsynced_all folder before after error (inl same) unsynced =
-    absurd (no_longer (Folder_synced (path_in folder) (Err error)) (changes before) (changes after) unsynced
-    (ap changes same))
-unsynced_all folder before after error (inr (answer, noted)) unsynced =
-    let at = path_in folder in
-    let one : ◌≡◌ {A = List DiskEvent} (Folder_synced at answer ∷ changes before) (Folder_synced at (Err error) ∷ changes before) =
-    sym (ap changes noted) ∙ unsynced in
-    let same : ◌≡◌ {A = Done} answer (Err error) = cc one in
-    noted ∙ ap (λ (a : Done). Folder_synced at a ∷ before) same
+unsynced_all folder before after error (inl same) unsynced = absurd (no_longer _ _ _ unsynced (ap changes same))
+unsynced_all folder before after error (inr (answer, noted)) unsynced = search rules
 
 module _ (Syncs Other : List DiskEvent → List DiskEvent → Type 0)
     (weaker : (before after : List DiskEvent) → Syncs before after → Other before after) where
   names_file : (replaces : Bool) (paths : Paths) (file : FileState) (before after : List DiskEvent)
       → NamesFile Syncs replaces paths file before after → NamesFile Other replaces paths file before after
-  names_file true paths file before after named = weaker _ _ named
-  names_file false paths file before after (inl links) = inl (links.0, links.1, weaker _ _ links.2, links.3)
-  names_file false paths file before after (inr renames) = inr (renames.0, renames.1, weaker _ _ renames.2)
+  names_file replaces paths file before after h5 = search rules
 
 pub was_named : {F : Type 0} (folder : Option (DiskFolder F)) (paths : Paths) (bytes : List ℕ) (after : List DiskEvent)
     → IsFolderIn paths.local folder after → NamesBytes (SyncsFolder folder) paths bytes after → WasNamed paths bytes after
-was_named folder paths bytes after fits named = (
-  named.0,
-  named.1,
-  named.2,
-  named.3,
-  names_file (SyncsFolder folder) (SyncsIn paths.local after) (synced_in folder paths.local after fits) paths.replaces
-      paths named.0 named.1 after named.4,
-)
+was_named folder paths bytes after fits named = search (rules, names_file, synced_in)
 
 pub linked_named : (Syncs : List DiskEvent → List DiskEvent → Type 0) (paths : Paths) (bytes : List ℕ) (file : FileState)
     (before mid after : List DiskEvent) → IsWholeAt paths.part bytes file → ∥ IsStillAt paths.part file.made_when before ∥₁
     → mid ≡ Linked file paths.part paths.local (Ok tt) ∷ before → KeepsOne Syncs paths mid after
     → (f : FileState) × (b : List DiskEvent) × IsWholeAt paths.part bytes f × ∥ IsStillAt paths.part f.made_when b ∥₁
     × NamesFile Syncs false paths f b after
-linked_named Syncs paths bytes file before mid after whole still is kept =
-    (file, before, whole, still, inl (subst (λ (m : List DiskEvent). KeepsOne Syncs paths m after) is kept))
+linked_named Syncs paths bytes file before mid after whole still is kept = search rules

@@ -1,4 +1,5 @@
 -- The file of a complete job has its name, and what moved is in it.
+use Rattle.std.proofs.Common.{rules}
 use Rattle.tftp_client.proofs.Common.{◌≡◌, ◌⊎◌, ℕ, Bool, true, List, Some, inl, inr, refl, sym, ap, ◌∙◌, subst, ∥∥₁_map}
 use Rattle.tftp_client.proofs.Common.{same_Some, Holding, SinkMeaning, SourceMeaning, Files, Source, Sink, DiskEvent}
 use Rattle.tftp_client.proofs.Common.{DiskSource, SocketEvent, LocalFile, Job, Converses, State, Keeps, KeepsPlace}
@@ -37,20 +38,10 @@ module _ {S : Type 0} {D F V G : Type 0} {logs : looks.Ghosts D} {writes : write
     {reads : read.Ghosts G} {seeks : seek.Ghosts G} where
   -- the file of a job stays that
   pub still_for : (job : Job) (file files : Files S (LocalFile D F V G logs writes views reads seeks)) → KeepsFile file files → IsFor job file → IsFor job files
-  still_for job (Source a) (Source b) keeps is = tt
-  still_for job (Source a) (Sink b) keeps is = absurd keeps
-  still_for job (Sink a) (Source b) keeps is = absurd keeps
-  still_for job (Sink a) (Sink b) keeps is = keeps.same ∙ is
+  still_for job file files keeps is = search rules
 
   pub kept_then : (a b c : Files S (LocalFile D F V G logs writes views reads seeks)) → KeepsFile a b → KeepsFile b c → KeepsFile a c
-  kept_then (Source a) (Source b) (Source c) p q = tt
-  kept_then (Source a) (Source b) (Sink c) p q = absurd q
-  kept_then (Source a) (Sink b) c p q = absurd p
-  kept_then (Sink a) (Source b) c p q = absurd p
-  kept_then (Sink a) (Sink b) (Source c) p q = absurd q
-  kept_then (Sink a) (Sink b) (Sink c) p q =
-      then_keeps (paths_in a) (paths_in b) (paths_in c) (tried_in a) (tried_in b) (tried_in c) (log_in a) (log_in b)
-      (log_in c) p q
+  kept_then a b c p q = search rules
 
   pub received : (local : LocalFile D F V G logs writes views reads seeks) (files : Files S (LocalFile D F V G logs writes views reads seeks)) → KeepsFile (Sink local) files → IsReceived files
   received local (Source b) keeps = absurd keeps
@@ -59,10 +50,7 @@ module _ {S : Type 0} {D F V G : Type 0} {logs : looks.Ghosts D} {writes : write
   -- the disk of a received file was asked for no other name
   pub keeps_disk : (local : LocalFile D F V G logs writes views reads seeks) (files : Files S (LocalFile D F V G logs writes views reads seeks)) (disk : D) (paths : Paths) → paths_in local ≡ paths
       → KeepsFile (Sink local) files → HasDisk files disk → Keeps paths (log_in local) (logs.log disk)
-  keeps_disk local (Source b) disk paths is keeps has = absurd keeps
-  keeps_disk local (Sink b) disk paths is keeps has =
-      subst (λ (d : D). Keeps paths (log_in local) (logs.log d)) (sym has)
-      (subst (λ (p : Paths). Keeps p (log_in local) (log_in b)) is keeps.keeps)
+  keeps_disk local files disk paths is keeps has = search rules
 
   -- the disk of a received file has these calls
   abbrev pub HasCalls : Files S (LocalFile D F V G logs writes views reads seeks) → List DiskEvent → Type 0

@@ -1,8 +1,8 @@
 -- The laws of a complete put.
-use Rattle.tftp_client.proofs.Common.{◌≡◌, ℕ, true, List, length, inl, inr, refl, sym, ◌∙◌, Mode, Octet, Netascii, Kind}
-use Rattle.tftp_client.proofs.Common.{SinkMeaning, SourceMeaning, Files, Source, Sink, is_complete, SocketEvent, Job}
-use Rattle.tftp_client.proofs.Common.{Converses, State, nothing_moved, run_moves, IsCountOf, IsFileOf, begun, opens}
-use Rattle.tftp_client.proofs.Common.{plain}
+use Rattle.std.proofs.Common.{rules}
+use Rattle.tftp_client.proofs.Common.{◌≡◌, ℕ, true, List, length, refl, sym, ◌∙◌, Mode, Octet, Kind, SinkMeaning}
+use Rattle.tftp_client.proofs.Common.{SourceMeaning, Files, Source, Sink, is_complete, SocketEvent, Job, Converses}
+use Rattle.tftp_client.proofs.Common.{State, nothing_moved, run_moves, IsCountOf, IsFileOf, begun, opens, plain}
 use Rattle.tftp_negotiate.specs.declared.known.Kind.TheVariants as kinds
 use Rattle.tftp_client.specs.Given.{CountsWhatItSent, IsGiven, SendsWhatItsFileGave}
 use Rattle.tftp_client.proofs.GivenBytes.{gave_all}
@@ -19,17 +19,12 @@ module _ {S K : Type 0} (sources : SourceMeaning S) (sinks : SinkMeaning K) wher
   run_gave (Sink first) files run done = tt
 
   pub sends_what_its_file_gave : SendsWhatItsFileGave sources sinks
-  sends_what_its_file_gave most port job before s files count (inl run) done =
-      run_gave run.runs.file files run.runs.converses done
-  sends_what_its_file_gave most port job before s files count (inr again) done =
-      run_gave again.2.runs.file files again.2.runs.converses done
+  sends_what_its_file_gave most port job before s files count h7 done = search (rules, run_gave)
 
   -- ---- how much it sent
   octet_count : (source : S) (mode : Mode) (size count : ℕ) → IsCountOf sources sinks (Source source) mode size count
       → mode ≡ Octet → count ≡ size
-  octet_count source Octet size count counts octet = counts
-  octet_count source Netascii size count counts octet =
-      absurd (let e : ◌≡◌ {A = Mode} Netascii Octet = octet in cc)
+  octet_count source mode size count counts octet = search rules
 
   -- of the run of a put
   put_counted : {port reading : ℕ} (job : Job) (size count : ℕ) (mode : Mode) {before : List SocketEvent} {s : State}
@@ -54,10 +49,5 @@ module _ {S K : Type 0} (sources : SourceMeaning S) (sinks : SinkMeaning K) wher
       put_counted job size count mode file files run side done octet counts
 
   pub counts_what_it_sent : CountsWhatItSent sources sinks
-  counts_what_it_sent most port job before s files count (inl run) done writes octet =
-      run_counted job.kind job run.length count job.mode run.runs.file files run.runs.converses run.side done writes octet
-      run.counts
-  counts_what_it_sent most port job before s files count (inr again) done writes octet =
-      let run = again.2 in
-      run_counted job.kind (plain job) run.length count job.mode run.runs.file files run.runs.converses run.side done
-      writes octet run.counts
+  counts_what_it_sent most port job before s files count h7 done writes octet =
+      search (rules, run_counted, plain)

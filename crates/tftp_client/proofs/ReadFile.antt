@@ -1,16 +1,16 @@
 -- What moved in the run of a complete put was read of its file.
-use Rattle.tftp_client.proofs.Common.{◌≡◌, ℕ, true, List, ◌++◌, length, take, inl, inr, refl, sym, ap, ◌∙◌, subst}
-use Rattle.tftp_client.proofs.Common.{same_Some, Mode, Netascii, Kind, SinkMeaning, SourceMeaning, Files, Source, Sink}
+use Rattle.std.proofs.Common.{arith, rules}
+use Rattle.tftp_client.proofs.Common.{◌≡◌, ℕ, true, List, ◌++◌, length, take, inl, inr, sym, ap, ◌∙◌, subst, same_Some}
+use Rattle.tftp_client.proofs.Common.{Mode, Netascii, Kind, SinkMeaning, SourceMeaning, Files, Source, Sink}
 use Rattle.tftp_client.proofs.Common.{is_complete, DiskSource, SocketEvent, Job, Converses, State, nothing_moved}
 use Rattle.tftp_client.proofs.Common.{run_moves, IsFileOf, Transfers, begun, opens, plain}
 use Rattle.std.proofs.Math.Seq.{take-append_seam}
-use Rattle.std.proofs.lemmas.Grind.{flat_map-append}
+use Rattle.std.proofs.lemmas.Grind.{common_steps}
 use Rattle.tftp_negotiate.specs.declared.known.Kind.TheVariants as kinds
-use Rattle.tftp_file.specs.Netascii.{wire_byte, wire_text}
+use Rattle.tftp_file.specs.Netascii.{wire_text}
 use Rattle.tftp_file.specs.Source.{GivesInTurn}
 use Rattle.tftp_disk.specs.DiskSource.{source_calls, wire_read}
 use Rattle.tftp_disk.specs.DiskSourceLaws.{GivesInOrder}
-use Rattle.tftp_disk.specs.Given.{given}
 use Rattle.tftp_client.specs.Outbound.{HasLength, IsPassed}
 use Rattle.tftp_client.specs.Runs.{moved_by}
 use Rattle.tftp_client.specs.Sent.{BeginsAt, BeginsFor, IsSent, IsSentFrom, SendsTheTextWhole}
@@ -34,9 +34,7 @@ module _ {F K : Type 0} where
 
   of_plain : (job : Job) (files : Files (DiskSource F) K) (count : ℕ) (bytes : List ℕ) → IsSentFrom (plain job) files count bytes
       → IsSentFrom job files count bytes
-  of_plain job (Source source) count bytes h =
-      record { opened = h.opened; mode = h.mode; gave = h.gave; long = h.long }
-  of_plain job (Sink sink) count bytes h = tt
+  of_plain job files count bytes h = search rules
 
   -- what was sent of a text that was not changed
   of_text : (job : Job) (files : Files (DiskSource F) K) (count : ℕ) (bytes text : List ℕ)
@@ -50,13 +48,11 @@ module _ {F K : Type 0} where
       let same : length_is.text ≡ text = same_Some length_is.text text (sym length_is.read ∙ still.0) in
       let wire = wire_text Netascii text in
       let more = wire_text Netascii still.1.0 in
-      let all : wire_read source ≡ wire ++ more =
-      ap (λ (m : Mode). wire_text m (given calls)) (sent.mode ∙ netascii) ∙ ap (wire_text Netascii) (sym still.1.1)
-      ∙ flat_map-append wire_byte text still.1.0 in
+      let all : wire_read source ≡ wire ++ more = grind (arith, common_steps) in
       let long : length bytes ≡ length wire =
       length_is.long ∙ ap (λ (t : List ℕ). length (wire_text Netascii t)) same in (
-        sym (take-append_seam bytes sent.gave.begins.0) ∙ ap (take (length bytes)) (sent.gave.begins.1 ∙ all)
-            ∙ ap (λ (n : ℕ). take n (wire ++ more)) long ∙ take-append_seam wire more,
+        sym (take-append_seam bytes sent.gave.begins.0) ∙ ap (take (length bytes)) (sent.gave.begins.1 ∙ all) ∙ ap (λ (n
+            : ℕ). take n (wire ++ more)) long ∙ take-append_seam wire more,
         length_is.count ∙ ap length same,
       )
 
@@ -71,15 +67,9 @@ module _ {F K : Type 0} where
     sent in_order job kinds.Write size count first source run side done begins =
         let bytes = (run_moves run nothing_moved).bytes in
         let turns : GivesInTurn sources first bytes source = gave_all sources sinks first run done in
-        let h = in_order job.mode first source bytes turns begins.0.unread
-        (none_given (source_calls first) begins.0.start) in
-        record {
-          opened = h.place ∙ begins.0.opened;
-          mode = h.mode ∙ begins.0.unread.has_mode;
-          gave = h.given;
-          long = same_length job.mode count size (length bytes) (source_calls first) (source_calls source) h.found h.pass
-              (sent_all sources sinks size run refl refl refl done) begins.1;
-        }
+        let h = in_order job.mode first source bytes turns begins.0.unread (none_given (source_calls first)
+        begins.0.start) in
+        search (rules, same_length, length, sent_all)
 
     run_sent : GivesInOrder sources → {port reading : ℕ} (job : Job) (kind : Kind) (size count : ℕ) {before : List SocketEvent}
         {s : State} (file files : Files (DiskSource F) K)
@@ -101,10 +91,7 @@ module _ {F K : Type 0} where
     was_read in_order {job = job} {files = files} {count = count} (inl run) begins done =
         run_sent in_order job job.kind run.length count run.runs.file files run.runs.converses run.side done begins
     was_read in_order {job = job} {files = files} {count = count} (inr again) begins done =
-        let run = again.2 in
-        of_plain job files count (run_moves run.runs.converses nothing_moved).bytes
-        (run_sent in_order (plain job) job.kind run.length count run.runs.file files run.runs.converses run.side done
-        (to_plain job count run.length run.runs.file begins))
+        search (rules, of_plain, run_moves, nothing_moved, run_sent, plain, to_plain)
 
     pub sends_what_reads_returned : GivesInOrder sources → SendsWhatReadsReturned sources sinks
     sends_what_reads_returned in_order most port job before s files count transfers begins done =
@@ -112,5 +99,4 @@ module _ {F K : Type 0} where
 
     pub sends_the_text_whole : GivesInOrder sources → SendsTheTextWhole sources sinks
     sends_the_text_whole in_order most port job before s files count text transfers begins done netascii still =
-        of_text job files count (moved_by sources sinks transfers).bytes text (was_read in_order transfers begins done)
-        netascii still
+        search (rules, of_text, was_read)

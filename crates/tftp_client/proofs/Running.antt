@@ -1,7 +1,7 @@
 -- The result of a job, from the facts of its calls.
 use Rattle.tftp_client.proofs.Common.{Result, Ok, Err, ◌≡◌, ℕ, Bool, List, subst, SinkMeaning, SourceMeaning, Files}
 use Rattle.tftp_client.proofs.Common.{SocketEvent, State}
-use Rattle.std.proofs.Common.{IfErr}
+use Rattle.std.proofs.Common.{IfErr, rules}
 use Rattle.tftp_client.specs.Runs.{CountsWaits, DalliesTo}
 
 -- for a last call whose result is returned as it is
@@ -20,8 +20,5 @@ module _ {S K : Type 0} (sources : SourceMeaning S) (sinks : SinkMeaning K) wher
       {after : List SocketEvent} → most ≡ most' → port ≡ port' → first ≡ first'
       → DalliesTo sources sinks dallies most port first file after files
       → DalliesTo sources sinks dallies most' port' first' file after files
-  goes_on {dallies} {most} {most'} {port} {port'} {first} {first'} {file} {files} {after} limit at is run =
-      let Within : ℕ → Type 0 = λ m. DalliesTo sources sinks dallies m port' first' file after files in
-      let At : ℕ → Type 0 = λ p. DalliesTo sources sinks dallies most p first' file after files in
-      let From : State → Type 0 = λ s. DalliesTo sources sinks dallies most port s file after files in
-      subst Within limit (subst At at (subst From is run))
+  goes_on {dallies} {most} {most'} {port} {port'} {first} {first'} {file} {files} {after} limit at is run = search
+      rules

@@ -1,10 +1,10 @@
 -- The length of a file that is sent, by the calls on it.
-use Rattle.tftp_client.proofs.Common.{◌≡◌, ℕ, Bool, true, false, List, [], ◌∷◌, ◌++◌, append-nil, Option, Some, None}
-use Rattle.tftp_client.proofs.Common.{Ok, Err, refl, sym, ap, ◌∙◌, if◌then◌else◌, true≢false, same_Some, Mode, Octet}
-use Rattle.tftp_client.proofs.Common.{Netascii, DiskEvent}
+use Rattle.std.proofs.Common.{rules}
+use Rattle.tftp_client.proofs.Common.{◌≡◌, ℕ, Bool, true, List, [], ◌∷◌, append-nil, Some, None, Ok, Err, refl, sym, ap}
+use Rattle.tftp_client.proofs.Common.{◌∙◌, if◌then◌else◌, true≢false, Mode, Octet, DiskEvent}
 use Rattle.std.specs.declared.io.SeekFrom.TheVariants.{Start, End, Current}
 use Rattle.tftp_disk.specs.DiskTrace.DiskEvent.{Opened, Given, Sought, Written}
-use Rattle.tftp_disk.specs.Given.{examined, given, is_at_end, is_at_start, passed}
+use Rattle.tftp_disk.specs.Given.{examined, given, is_at_start, passed}
 use Rattle.tftp_disk.specs.Measuring.{CountsPass}
 use Rattle.tftp_disk.specs.declared.measuring.TextLength.{TextLength}
 use Rattle.tftp_client.specs.Outbound.{HasLength, IsPassed}
@@ -26,37 +26,21 @@ none_given (event ∷ events) start = none_given events start
 
 -- a count within a limit
 within : (fits : Bool) (count counted : ℕ) → Some counted ≡ (if fits then Some count else None) → counted ≡ count
-within true count counted is = same_Some counted count is
-within false count counted is = absurd (let e : ◌≡◌ {A = Option ℕ} (Some counted) None = is in cc)
+within fits count counted is = search rules
 
 -- a pass from the start was counted, and then the file was set to its start again
 pub is_passed : (before between after : List DiskEvent) (counted : TextLength) (place : ℕ)
     → is_at_start before ≡ true → CountsPass before between (Some counted)
     → after ≡ Sought (Start 0) (Ok place) ∷ between → IsPassed counted.bytes counted.wire_bytes after
-is_passed before between after counted place start pass noted =
-    let all : given between ≡ pass.bytes =
-    pass.reads.more ∙ ap (λ (l : List ℕ). l ++ pass.bytes) (none_given before start) in
-    record {
-      text = pass.bytes;
-      read =
-          ap passed noted
-          ∙ ap (λ (b : Bool). if b then Some (given between) else None) (ap is_at_end pass.end.1) ∙ ap Some all;
-      count = pass.count;
-      long = within _ _ counted.wire_bytes pass.wire;
-    }
+is_passed before between after counted place start pass noted = search (rules, none_given, within)
 
 -- the length of a file of which the system and the pass over it still say the same
 pub same_length : (mode : Mode) (bytes wire sent : ℕ) (before after : List DiskEvent)
     → examined after ≡ examined before → passed after ≡ passed before → sent ≡ wire → HasLength mode bytes wire before
     → HasLength mode bytes sent after
-same_length Octet bytes wire sent before after found pass is long =
-    (record { found = long.0.found; told = found ∙ long.0.told; long = long.0.long }, is ∙ long.1)
-same_length Netascii bytes wire sent before after found pass is long =
-    record { text = long.text; read = pass ∙ long.read; count = long.count; long = is ∙ long.long }
+same_length mode bytes wire sent before after found pass is long = search rules
 
 -- in octet it is that on the wire
 pub octet_length : (mode : Mode) (bytes wire : ℕ) (events : List DiskEvent) → HasLength mode bytes wire events
     → mode ≡ Octet → bytes ≡ wire
-octet_length Octet bytes wire events long octet = sym long.1
-octet_length Netascii bytes wire events long octet =
-    absurd (let e : ◌≡◌ {A = Mode} Netascii Octet = octet in cc)
+octet_length mode bytes wire events long octet = search rules

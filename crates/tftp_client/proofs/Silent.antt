@@ -1,22 +1,21 @@
 -- What a client does to whom nothing comes, step by step.
-use Rattle.tftp_client.proofs.Common.{◌≡◌, ◌<◌, ◌≤◌, ◌⊎◌, ℕ, Bool, true, false, List, Option, Some, IsSome, inl, inr}
-use Rattle.tftp_client.proofs.Common.{refl, sym, ap, subst, ◌∙◌, arith, ◌==◌, ◌+◌, ◌-◌, ◌*◌, min, if◌then◌else◌}
-use Rattle.tftp_client.proofs.Common.{lt_of_not-le, true≢false, same_Some, Asked, Kind, Write, SinkMeaning}
-use Rattle.tftp_client.proofs.Common.{SourceMeaning, Files, timeout_response, wait_of, EndState, Position, outcome_of}
-use Rattle.tftp_client.proofs.Common.{Backoff, after, after_turn, timeout_turn, Response, Close, Retransmit, Endpoint}
-use Rattle.tftp_client.proofs.Common.{Outcome, Phase, Waiting, last_moment, Watch, SocketEvent, QuietEvent, waits, Job}
-use Rattle.tftp_client.proofs.Common.{Converses, IsOpen, MayElapse, MayWait, State, deadline_at, elapsed, waited}
-use Rattle.tftp_client.proofs.Common.{Begins, Receives, Waits, Times, Rests, Stays, Elapses, begun, opens, seconds_in}
+use Rattle.std.proofs.Common.{rules}
+use Rattle.tftp_client.proofs.Common.{◌≡◌, ◌<◌, ◌≤◌, ◌⊎◌, ℕ, List, Option, Some, IsSome, inl, inr, refl, sym, ap, subst}
+use Rattle.tftp_client.proofs.Common.{◌∙◌, arith, ◌+◌, ◌-◌, ◌*◌, min, if◌then◌else◌, same_Some, Asked, Kind}
+use Rattle.tftp_client.proofs.Common.{SinkMeaning, SourceMeaning, Files, wait_of, EndState, Position, outcome_of}
+use Rattle.tftp_client.proofs.Common.{Backoff, after_turn, timeout_turn, Outcome, Waiting, last_moment, Watch}
+use Rattle.tftp_client.proofs.Common.{SocketEvent, QuietEvent, waits, Job, Converses, IsOpen, MayElapse, MayWait, State}
+use Rattle.tftp_client.proofs.Common.{deadline_at, elapsed, waited, Begins, Receives, Waits, Times, Rests, Stays}
+use Rattle.tftp_client.proofs.Common.{Elapses, begun, opens, seconds_in}
 use Rattle.std.specs.Prelude.{max}
 use Rattle.std.proofs.lemmas.Option.{none-some}
-use Rattle.tftp_negotiate.specs.declared.known.Kind.TheVariants.{Read}
 use Rattle.tftp_ends.specs.declared.outcome.Outcome.TheVariants.{TimedOut}
 use Rattle.tftp_sockets.specs.Trace.QuietEvent.{Empty, Failed}
 use Rattle.tftp_sockets.specs.Quiet.{waits_in}
 use Rattle.tftp_client.specs.Converses.{wait_at}
 use Rattle.tftp_client.specs.Silence.{IsSilent, TimesOut, WaitsForEachSending}
 use Rattle.tftp_client.proofs.Conversing.{waits_elapsed}
-use Rattle.tftp_client.proofs.Growing.{one_more, wait_least, waiting_deadline}
+use Rattle.tftp_client.proofs.Growing.{one_more}
 
 -- the request is not answered: some waits of a second at most are left until it is sent again, and then
 -- as many as the waits behind that have seconds
@@ -40,30 +39,11 @@ no_wait : {port : ℕ} (event : QuietEvent) → (event ≡ Empty port) ⊎ (even
 no_wait event (inl is) = ap waits_in is
 no_wait event (inr is) = ap waits_in is
 
-positive : (n : ℕ) → (n == 0) ≡ false → 0 < n
-positive n more = lt_of_not-le (λ le. let zero : n ≡ 0 = omega (arith, le) in
-    true≢false (sym (ap (λ (k : ℕ). k == 0) zero) ∙ more))
-
--- a timeout of a waiting end
-pub timed_out : (last : Bool) (response : Response) (to : Endpoint) (e : EndState) → (e.position.retries_left == 0) ≡ last
-    → response ≡ (if last then Close TimedOut else Retransmit)
-    → (outcome_of (after response to e).phase ≡ Some TimedOut)
-    ⊎ ((0 < e.position.retries_left)
-    × (after response to e ≡ record e.position { retries_left = e.position.retries_left - 1 }))
-timed_out true response to e zero is = inl (ap (λ (r : Response). outcome_of (after r to e).phase) is)
-timed_out false response to e more is = inr (
-  positive e.position.retries_left more,
-  ap (λ (r : Response). after r to e) is,
-)
-
 pub times_out : (e : EndState) (asked : Asked) (limit : ℕ) → e.position.phase ≡ Waiting asked limit
     → (outcome_of (after_turn e (timeout_turn e)).position.phase ≡ Some TimedOut)
     ⊎ ((0 < e.position.retries_left)
     × ((after_turn e (timeout_turn e)).position ≡ record e.position { retries_left = e.position.retries_left - 1 }))
-times_out e asked limit is =
-    timed_out (e.position.retries_left == 0) (timeout_response e.position.retries_left e.position.phase)
-    e.position.last_sent_to e refl
-    (ap (λ (p : Phase). timeout_response e.position.retries_left p) is)
+times_out e asked limit is = search rules
 
 -- an open end has no outcome
 pub closed_not : (e : EndState) (outcome : Outcome) → outcome_of e.position.phase ≡ Some outcome → IsOpen e → ⊥
@@ -74,17 +54,13 @@ pub begins_now : (backoff : Backoff) (s : State) (used : ℕ) (asked : Asked) (l
     → s.end.position.phase ≡ Waiting asked limit → s.backoff ≡ backoff
     → s.end.role.retries ≡ used + s.end.position.retries_left
     → deadline_at s.backoff s.now s.end ≡ min (s.now + wait_of backoff 1 used * 1000) last_moment
-begins_now backoff s used asked limit waiting grows counted =
-    ap (λ (b : Backoff). deadline_at b s.now s.end) grows
-    ∙ waiting_deadline backoff s.now used s.end asked limit waiting counted
+begins_now backoff s used asked limit waiting grows counted = search rules
 
 -- a client that may wait is not due
 pub before_due : (backoff : Backoff) (s : State) (used : ℕ) (asked : Asked) (limit : ℕ)
     → s.end.position.phase ≡ Waiting asked limit → s.backoff ≡ backoff
     → s.end.role.retries ≡ used + s.end.position.retries_left → MayWait s → s.now < last_moment → s.now < s.deadline
-before_due backoff s used asked limit waiting grows counted may early =
-    lt_of_not-le (λ late. let is = may.due late ∙ begins_now backoff s used asked limit waiting grows counted in
-    let least = wait_least backoff 1 used in absurd (omega (arith, is, late, least, early)))
+before_due backoff s used asked limit waiting grows counted may early = search rules
 
 -- after a wait that lasted as long as it was to, one less is left
 after_wait : (backoff : Backoff) (most : ℕ) {port : ℕ} (s : State) (event : QuietEvent) (watch : Watch)
@@ -115,10 +91,8 @@ after_elapsed backoff most port s h due is_open = elim (times_out s.end h.asked 
   | inl closed ↦ inl closed
   | inr again ↦
       let next = elapsed port s in
-      let same : waits next.events ≡ waits s.events =
-      waits_elapsed {port = port} {s = s} (Elapses due is_open) in
-      let left : next.end.position.retries_left ≡ s.end.position.retries_left - 1 =
-      ap (λ (p : Position). p.retries_left) again.1 in
+      let same = waits_elapsed {port = port} {s = s} (Elapses due is_open) in
+      let left = ap (λ (p : Position). p.retries_left) again.1 in
       let waiting = ap (λ (p : Position). p.phase) again.1 ∙ h.waiting in
       let was = h.counted in
       let some = again.0 in
@@ -126,12 +100,9 @@ after_elapsed backoff most port s h due is_open = elim (times_out s.end h.asked 
       omega (arith, was, left, some) in
       let is = begins_now backoff (record next { now = s.now }) (h.used + 1) h.asked h.limit waiting h.grows counted in
       let first = one_more backoff 1 (h.used + 1) s.end.position.retries_left some in
-      let rest : seconds_in backoff 1 (h.used + 1 + 1) next.end.position.retries_left
-      ≡ seconds_in backoff 1 (h.used + 1 + 1) (s.end.position.retries_left - 1) =
-      ap (λ (n : ℕ). seconds_in backoff 1 (h.used + 1 + 1) n) left in
+      let rest = ap (λ (n : ℕ). seconds_in backoff 1 (h.used + 1 + 1) n) left in
       let few = h.few in
-      inr
-      (record {
+      inr (record {
         asked = h.asked;
         limit = h.limit;
         waiting = waiting;
@@ -189,24 +160,10 @@ pub record FirstWait (backoff : Backoff) (retries : ℕ) (e : EndState) : Type 0
 first_of : (backoff : Backoff) (retries : ℕ) (e : EndState) (asked : Asked) (limit : ℕ)
     → e.position.phase ≡ Waiting asked limit → e.role.retries ≡ 0 + e.position.retries_left
     → e.position.retries_left ≡ retries → FirstWait backoff retries e
-first_of backoff retries e asked limit waiting counted all_left =
-    let is = waiting_deadline backoff 0 0 e asked limit waiting counted in
-    let first = one_more backoff 1 0 (retries + 1) (omega arith) in
-    let rest : seconds_in backoff 1 1 (retries + 1 - 1) ≡ seconds_in backoff 1 1 e.position.retries_left =
-    ap (λ (n : ℕ). seconds_in backoff 1 1 n) (omega (arith, all_left)) in
-    record {
-      asked = asked;
-      limit = limit;
-      waiting = waiting;
-      counted = counted;
-      all_left = all_left;
-      near = omega (arith, is);
-      few = omega (arith, first, rest);
-    }
+first_of backoff retries e asked limit waiting counted all_left = search rules
 
 pub first_wait : (kind : Kind) (job : Job) (length : ℕ) → FirstWait job.backoff job.retries (opens kind job length)
-first_wait Read job length = first_of job.backoff job.retries (opens Read job length) _ _ refl (omega arith) refl
-first_wait Write job length = first_of job.backoff job.retries (opens Write job length) _ _ refl (omega arith) refl
+first_wait kind job length = search (rules, first_of, opens)
 
 begins : (port reading : ℕ) (kind : Kind) (job : Job) (length : ℕ) (before : List SocketEvent)
     → Silent job.backoff (seconds_in job.backoff 1 0 (job.retries + 1) + waits before)

@@ -1,13 +1,13 @@
 -- A file that was made is still what has its path.
-use Rattle.tftp_client.proofs.Common.{◌≡◌, ℕ, List, [], ◌∷◌, length, Option, Some, None, Result, Ok, Err, inl, inr}
-use Rattle.tftp_client.proofs.Common.{refl, sym, ap, ◌∙◌, subst, ∥∥₁_map, Error, DiskEvent, FileState, made_when}
-use Rattle.tftp_client.proofs.Common.{Folder_synced, Linked, Made, Removed, calls_of, handed, IsStillAt, Written, Paths}
-use Rattle.tftp_client.proofs.Common.{IsLeftIn}
-use Rattle.std.proofs.Common.{OnErr}
+use Rattle.std.proofs.lemmas.Grind.{common_steps}
+use Rattle.tftp_client.proofs.Common.{◌≡◌, ℕ, List, [], ◌∷◌, length, Option, Some, None, Result, Ok, Err, inl, refl, ap}
+use Rattle.tftp_client.proofs.Common.{◌∙◌, subst, ∥∥₁_map, Error, DiskEvent, FileState, made_when, Folder_synced}
+use Rattle.tftp_client.proofs.Common.{Linked, Made, Removed, calls_of, handed, IsStillAt, Written, Paths, IsLeftIn}
+use Rattle.std.proofs.Common.{OnErr, arith, rules}
 use Rattle.tftp_disk.specs.DiskTrace.{Done, state_of}
 use Rattle.tftp_disk.specs.DiskTrace.DiskEvent.{Renamed}
 use Rattle.tftp_disk.specs.Still.{LeavesPath}
-use Rattle.tftp_client.specs.Fetched.{LosesName, MovesUnsynced}
+use Rattle.tftp_client.specs.Fetched.{LosesName}
 use Rattle.tftp_client.specs.Written.{IsDone, IsLeftAs, IsStillIn, SameFile, SameIn}
 
 -- it was made just now
@@ -57,9 +57,8 @@ pub lost_there : (paths : Paths) (calls : Option ℕ) (file : FileState) (before
     → LosesName paths mid after → ∥ IsStillAt paths.part calls before ∥₁ → ∥ IsStillAt paths.part calls after ∥₁
 lost_there paths calls file before mid after apart is lost still =
     let unsynced = Folder_synced lost.0 (Err lost.1) ∷ mid in
-    left_there paths.part calls (Removed paths.local lost.2) unsynced after (removal_leaves paths lost.2 apart) lost.3
-    (left_there paths.part calls (Folder_synced lost.0 (Err lost.1)) mid unsynced tt refl
-    (left_there paths.part calls (Linked file paths.part paths.local (Ok tt)) before mid apart is still))
+    left_there _ _ _ _ _ (removal_leaves paths lost.2 apart) lost.3 (left_there _ _ _ _ _ tt refl (left_there _ _ _ _ _
+    apart is still))
 
 module _ {F : Type 0} where
   -- a call left it there, and its file is what it was
@@ -68,8 +67,7 @@ module _ {F : Type 0} where
       → ∥ IsStillAt part (made_when (calls_of old.writer)) before ∥₁
       → ∥ IsStillAt part (made_when (calls_of new.writer)) after ∥₁
   call_leaves part old new event before after leaves same is still =
-      same_there part (made_when (calls_of old.writer)) (made_when (calls_of new.writer)) after (sym same)
-      (left_there part (made_when (calls_of old.writer)) event before after leaves is still)
+      search (rules, same_there, made_when, calls_of, left_there)
 
   -- it still has its first name
   pub left_as : (paths : Paths) (written : Written F) (log : List DiskEvent)
@@ -83,21 +81,16 @@ module _ {F : Type 0} where
       → after ≡ Folder_synced folder (Err error)
       ∷ Renamed (state_of (calls_of written.writer)) paths.part paths.local (Ok tt) ∷ before
       → ∥ IsLeftAs paths written after ∥₁
-  moved_as paths written before after folder error whole still is =
-      ∣ inr (state_of (calls_of written.writer), before, folder, error, whole, still, is) ∣₁
+  moved_as paths written before after folder error whole still is = grind (arith, common_steps)
 
   -- the same file is left as it was
   as_left : (paths : Paths) (old new : Written F) (log : List DiskEvent) → SameFile old new → IsLeftAs paths old log
       → IsLeftAs paths new log
-  as_left paths old new log same (inl still) =
-      inl (subst (λ (n : Option ℕ). IsStillAt paths.part n log) (sym same.making) still)
-  as_left paths old new log same (inr moved) =
-      inr (subst (λ (bytes : List ℕ). MovesUnsynced paths bytes log) (sym same.content) moved)
+  as_left paths old new log same h5 = search rules
 
   pub in_left : (paths : Paths) (old new : Option (Written F)) (log : List DiskEvent) → SameIn old new
       → ∥ IsLeftIn paths old log ∥₁ → ∥ IsLeftIn paths new log ∥₁
-  in_left paths None new log same left =
-      subst (λ (w : Option (Written F)). ∥ IsLeftIn paths w log ∥₁) (sym same) left
+  in_left paths None new log same left = rw (same) left
   in_left paths (Some old) None log same left = absurd same
   in_left paths (Some old) (Some new) log same left = ∥∥₁_map left (λ at. as_left paths old new log same at)
 

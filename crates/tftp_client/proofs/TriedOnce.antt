@@ -1,6 +1,7 @@
 -- The name of a received file is tried once: what was given then stays, and else the file is left where it was.
-use Rattle.tftp_client.proofs.Common.{◌≡◌, ℕ, List, Bool, true, false, refl, sym, ap, ◌∙◌, subst, ∥∥₁_map, DiskEvent}
-use Rattle.tftp_client.proofs.Common.{Paths, WasNamed, IsLeftIn, bytes_in, paths_of}
+use Rattle.std.proofs.Common.{rules}
+use Rattle.tftp_client.proofs.Common.{◌≡◌, ℕ, List, Bool, true, false, refl, sym, ap, ◌∙◌, subst, ∥∥₁_map, Paths}
+use Rattle.tftp_client.proofs.Common.{WasNamed, IsLeftIn, bytes_in, paths_of}
 use Rattle.std.specs.declared.io.traits.Read as read
 use Rattle.std.specs.declared.io.traits.Write as write
 use Rattle.std.specs.declared.io.traits.Seek as seek
@@ -26,17 +27,14 @@ module _ {D F V G : Type 0} {logs : looks.Ghosts D} {writes : write.Ghosts F} {v
 
   pub given_still : (old new : PartFile D F V G logs writes views reads seeks) → (old.is_tried ≡ true → new ≡ old)
       → IsGiven old → IsGiven new
-  given_still old new same given =
-      subst (λ (part : PartFile D F V G logs writes views reads seeks). IsGiven part) (sym (same given.0)) given
+  given_still old new same given = rw ((same given.0)) given
 
   pub untried_left : (part : PartFile D F V G logs writes views reads seeks) → part.is_tried ≡ false → IsLeftHere part
   untried_left part untried = still_left (names_of part) part.written (logs.log part.disk) (part.still untried)
 
   by_test : (b : Bool) (old new : PartFile D F V G logs writes views reads seeks) → old.is_tried ≡ b
       → (old.is_tried ≡ true → new ≡ old) → (old.is_tried ≡ false → IsLeftHere new) → IsLeftHere old → IsLeftHere new
-  by_test true old new is same left was =
-      subst (λ (part : PartFile D F V G logs writes views reads seeks). IsLeftHere part) (sym (same is)) was
-  by_test false old new is same left was = left is
+  by_test b old new is same left was = search rules
 
   -- after a call that leaves a file whose name was tried as it was
   pub left_still : (old new : PartFile D F V G logs writes views reads seeks) → (old.is_tried ≡ true → new ≡ old)
@@ -56,16 +54,10 @@ module _ {D F V G : Type 0} {logs : looks.Ghosts D} {writes : write.Ghosts F} {v
   written_given old new names bytes disk tried given =
       let log : logs.log new.disk ≡ logs.log old.disk = ap (λ (d : D). logs.log d) disk in (
         tried ∙ given.0,
-        ∥∥₁_map given.1
-            (λ named. subst (λ (l : List DiskEvent). WasNamed (names_of new) (bytes_in new.written) l) (sym log)
-            (subst (λ (b : List ℕ). WasNamed (names_of new) b (logs.log old.disk)) (sym bytes)
-            (subst (λ (p : Paths). WasNamed p (bytes_in old.written) (logs.log old.disk)) (sym names) named))),
+        ∥∥₁_map given.1 (λ named. (rw (log) (subst (λ (b : List ℕ). WasNamed (names_of new) b (logs.log old.disk)) (sym
+            bytes) (subst (λ (p : Paths). WasNamed p (bytes_in old.written) (logs.log old.disk)) (sym names) named)))),
       )
 
   pub written_left : (old new : PartFile D F V G logs writes views reads seeks) → names_of new ≡ names_of old
       → SameIn old.written new.written → new.disk ≡ old.disk → IsLeftHere old → IsLeftHere new
-  written_left old new names same disk left =
-      let log : logs.log new.disk ≡ logs.log old.disk = ap (λ (d : D). logs.log d) disk in
-      subst (λ (l : List DiskEvent). ∥ IsLeftIn (names_of new) new.written l ∥₁) (sym log)
-      (subst (λ (p : Paths). ∥ IsLeftIn p new.written (logs.log old.disk) ∥₁) (sym names)
-      (in_left (names_of old) old.written new.written (logs.log old.disk) same left))
+  written_left old new names same disk left = search (rules, in_left)

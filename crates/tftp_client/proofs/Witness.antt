@@ -1,19 +1,23 @@
 -- A get and a put that are complete: the law `some_transfers_are_complete` has them.
 use Rattle.tftp_client.proofs.Common.{rules, ◌≡◌, refl, ℕ, [], ◌∷◌, ◌++◌, Some, None, Ok, true, false, arith, inl, inr}
-use Rattle.tftp_client.proofs.Common.{List, length, ap, sym, ◌*◌, same_Some, true≢false, Octet, Ack, Data, Asked, Write}
+use Rattle.tftp_client.proofs.Common.{◌∙◌, append-nil, subst}
+use Rattle.tftp_client.proofs.Common.{List, length, ap, sym, ◌*◌, true≢false, Octet, Ack, Data, Asked, Write}
 use Rattle.tftp_client.proofs.Common.{Files, Sink, Source, Endpoint, EndState, Complete, DatagramStep, Done, Turn}
 use Rattle.tftp_client.proofs.Common.{after_turn, committed_turn, data_bytes, response_turn, default_terms, Made}
 use Rattle.tftp_client.proofs.Common.{Removed, Linked, Folder_synced, calls_of, Refused, Found, Watch, IsStillAt}
-use Rattle.tftp_client.proofs.Common.{KeepsPlace, WasNamed, paths_of, Written, Job, Converses, IsOpen, State, Begins}
+use Rattle.tftp_client.proofs.Common.{WasNamed, Written, Job, Converses, IsOpen, State, Begins}
 use Rattle.tftp_client.proofs.Common.{Receives, Answers, SocketEvent, begun, printed}
 use denote.RawPtr.{null_ptr}
-use Rattle.std.proofs.Common.{zero, suc}
-use Rattle.std.specs.Prelude.{◌<◌, ◌^◌, pos, codes, get_or, IsUtf8}
-use Rattle.std.proofs.lemmas.Fmt.{decimal_digit}
+use Rattle.std.specs.Prelude.{◌<◌, ◌^◌, pos, codes, IsUtf8}
+use Rattle.std.proofs.NetLemmas.Sockets.{read_socket_v4_sound}
+use Rattle.std.specs.Net.Grammar.{IsSocketV4Text}
+use Rattle.std.specs.Net.Reader.{read_ipv4, read_number, read_octet, read_port, read_socket_v4}
+use Rattle.std.specs.declared.net.socket_addr.SocketAddrV4.{SocketAddrV4}
 use Rattle.tftp_arguments.specs.Read.{IsFlag}
 use Rattle.std.proofs.lemmas.Bool.{ltb-true}
 use Rattle.std.specs.declared.alloc.Global.{Global}
 use Rattle.std.specs.declared.string.String.{String}
+use Rattle.std.specs.declared.vec.Vec.{Vec}
 use Rattle.clap.proofs.OnLiterals.{clap_on_literals}
 use Rattle.tftp_wire.specs.Spelling.{Spells}
 use Rattle.tftp_negotiate.specs.declared.known.Kind.TheVariants.{Read}
@@ -34,7 +38,7 @@ use Rattle.tftp_client.specs.Written.{paths_for}
 use Rattle.tftp_client.specs.declared.local_names.LocalNames.{LocalNames}
 use Rattle.tftp_client.specs.declared.transfer.conversation.Progress.TheVariants.{Hidden}
 use Rattle.tftp_client.specs.Converses.{received, turned, renewed}
-use Rattle.tftp_client.specs.OnDisk.{KeepsDisk, StoresWords}
+use Rattle.tftp_client.specs.OnDisk.{StoresWords}
 use Rattle.tftp_client.specs.Sent.{SendsWords}
 use Rattle.tftp_lines.specs.ClientOutcome.{end_text}
 use Rattle.tftp_lines.specs.declared.client_outcome.ClientOutcome.TheVariants as ends
@@ -43,19 +47,19 @@ use Rattle.tftp_client.specs.Words.{WordsName}
 use Rattle.tftp_client.specs.Witness.{Calls, Local, LocalSource, SomeAreSent, SomeAreStored, get_words}
 use Rattle.tftp_client.specs.Witness.{local_sink, local_source, put_words}
 
-abbrev pub text : (bytes : List ℕ) → length bytes < 1000 → IsUtf8 bytes → String Global
-text bytes short valid = record {
-  bytes = record {
-    ptr = null_ptr;
-    len = length bytes;
-    cap = length bytes;
-    alloc = record { memory = record { seal = tt } };
-    items = bytes;
-    ok = (refl, omega arith);
-    small = omega (arith, short);
-  };
-  ok = ∣ valid ∣₁;
+abbrev pub vec : (bytes : List ℕ) → length bytes < 1000 → Vec ℕ Global
+vec bytes short = record {
+  ptr = null_ptr;
+  len = length bytes;
+  cap = length bytes;
+  alloc = record { memory = record { seal = tt } };
+  items = bytes;
+  ok = (refl, omega arith);
+  small = omega (arith, short);
 }
+
+abbrev pub text : (bytes : List ℕ) → length bytes < 1000 → IsUtf8 bytes → String Global
+text bytes short valid = record { bytes = vec bytes short; ok = ∣ valid ∣₁ }
 
 abbrev pub name : List ℕ
 name = codes "L"
@@ -72,8 +76,7 @@ unfolding lib.Utf8.encode
 valid_part = (part, (refl, refl))
 
 pub no_slash : HasNoSlash name
-no_slash zero within = λ e. absurd (omega (arith, e))
-no_slash (suc i) within = absurd (omega (arith, within))
+no_slash = search rules
 
 abbrev pub server : Endpoint
 server = record { ip = 1 ∷ 2 ∷ 3 ∷ 4 ∷ []; port = 69 }
@@ -100,51 +103,25 @@ get_job = record {
   dallies = false;
 }
 
-pub not_true : Some (codes "false") ≡ Some (codes "true") → ⊥
-not_true e =
-    let at = ap (λ (text : List ℕ). get_or text 0 0) (same_Some (codes "false") (codes "true") e) in
-    absurd (omega (arith, at))
-
 pub unset : IsFlag (Some (codes "false")) false
-unset = record { absent = λ e. refl; yes = λ e. absurd (not_true e); no = λ e. refl }
+unset = search rules
 
 pub set : IsFlag (Some (codes "true")) true
-set = record {
-  absent = λ e. absurd (let f : Some (codes "true") ≡ None = e in cc);
-  yes = λ e. refl;
-  no = λ e. absurd (not_true (sym e));
-}
+set = grind arith
 
 pub left_out : IsFlag None false
-left_out = record {
-  absent = λ e. refl;
-  yes = λ e. absurd (let f : None ≡ Some (codes "true") = e in cc);
-  no = λ e. refl;
-}
+left_out = search rules
 
--- the server's address, as it is spelled
+-- the server's address, as it is read
 pub its_name : Names (codes "1.2.3.4:69") (Some server)
-its_name = (
-  record { ip = record { octets = 1 ∷ 2 ∷ 3 ∷ 4 ∷ [] }; port = 69 },
-  (
-    codes "1.2.3.4",
-    codes ":69",
-    refl,
-    record {
-      a = 1;
-      b = 2;
-      c = 3;
-      d = 4;
-      fit = (omega arith, omega arith, omega arith, omega arith);
-      value = refl;
-      spelled =
-          rw (decimal_digit 1 (omega arith)) (rw (decimal_digit 2 (omega arith)) (rw (decimal_digit 3 (omega arith))
-          (rw (decimal_digit 4 (omega arith)) refl)));
-    },
-    (codes "69", refl, ((omega arith, (omega arith, (omega arith, tt))), refl), omega arith),
-  ),
-  record { ip = refl; port = refl },
-)
+unfolding read_socket_v4 read_ipv4 read_octet read_number read_port
+its_name =
+    let address : SocketAddrV4 = record { ip = record { octets = server.ip }; port = server.port } in
+    let read = read_socket_v4_sound (codes "1.2.3.4:69") [] address refl in (
+      address,
+      subst (λ (text : List ℕ). IsSocketV4Text text address) (sym (read.1 ∙ append-nil read.0)) read.2,
+      record { ip = refl; port = refl },
+    )
 
 pub get_named : WordsName get_words get_job
 unfolding clap_on_literals
@@ -163,20 +140,7 @@ get_named = record {
 }
 
 abbrev pub put_job : Job
-put_job = record {
-  kind = Write;
-  server = server;
-  name = record { ref_ptr = (0, 0); now = codes "b" };
-  local = record { ref_ptr = (0, 0); now = name };
-  existing = Refused;
-  mode = Octet;
-  asked = no_options;
-  retries = 5;
-  backoff = Constant;
-  falls_back = false;
-  progress = Hidden;
-  dallies = true;
-}
+put_job = record get_job { kind = Write; name = record { ref_ptr = (0, 0); now = codes "b" }; dallies = true }
 
 pub put_named : WordsName put_words put_job
 unfolding clap_on_literals
@@ -246,11 +210,17 @@ stores = committed_turn (default_terms answers_from) 1 answers_from at_first (Ok
 abbrev pub s0 : State
 s0 = begun Constant 5000 0 at_first []
 
+abbrev pub at_10 : Watch
+at_10 = record { now = 10; reading = 10 }
+
+abbrev pub at_20 : Watch
+at_20 = record { now = 20; reading = 20 }
+
 abbrev pub s1 : State
-s1 = turned 5000 stores (received 5000 answers_from (data_bytes 1 (65 ∷ [])) (record { now = 10; reading = 10 }) s0)
+s1 = turned 5000 stores (received 5000 answers_from (data_bytes 1 (65 ∷ [])) at_10 s0)
 
 abbrev pub s2 : State
-s2 = renewed true (record { now = 10; reading = 10 }) s1
+s2 = renewed true at_10 s1
 
 pub may_get : MayGet (codes "a") Octet no_options
 may_get = record { valid = search rules; options = search rules }
@@ -265,18 +235,7 @@ appended = Made part (Ok tt) ∷ opened
 abbrev pub written_of : (calls : Calls) (buffered : List ℕ) → length buffered < 1000 → sync_failed calls ≡ false
     → AllByRecursion ArePermissions (modes_asked calls) → Written (Unit {0})
 written_of calls buffered short sound plain = record {
-  writer = record {
-    file = record { file = tt; trace = record { events = calls } };
-    buffer = record {
-      ptr = null_ptr;
-      len = length buffered;
-      cap = length buffered;
-      alloc = record { memory = record { seal = tt } };
-      items = buffered;
-      ok = (refl, omega arith);
-      small = omega (arith, short);
-    };
-  };
+  writer = record { file = record { file = tt; trace = record { events = calls } }; buffer = vec buffered short };
   unsynced = 0;
   sync_error = None;
   sound = λ none. sound;
@@ -294,18 +253,8 @@ still_appended = record { since = []; before = opened; made = refl; when = refl;
 
 abbrev pub local_with_block : Local
 local_with_block = record new_local {
-  part = record {
-    disk = appended;
-    alloc = record { memory = record { seal = tt } };
-    names = the_names;
-    existing = Refused;
-    folder = record { folder = Some (record { file = tt; trace = record { events = opened } }) };
-    written = Some buffered;
-    is_tried = false;
-    placed = refl;
-    folder_fits = ∣ (codes ".", Here no_slash, refl) ∣₁;
-    still = λ e. ∣ still_appended ∣₁;
-  };
+  part =
+      record new_local.part { disk = appended; written = Some buffered; placed = refl; still = λ e. ∣ still_appended ∣₁ };
   count = 1;
   counts = refl;
   named = λ e. absurd (true≢false (sym e));
@@ -332,44 +281,19 @@ got_name = (
 )
 
 abbrev pub stored_local : Local
-stored_local = record {
-  part = record {
+stored_local = record new_local {
+  part = record new_local.part {
     disk = given;
-    alloc = record { memory = record { seal = tt } };
-    names = the_names;
-    existing = Refused;
-    folder = record { folder = Some (record { file = tt; trace = record { events = opened } }) };
     written = Some whole;
     is_tried = true;
     placed = refl;
-    folder_fits = ∣ (codes ".", Here no_slash, refl) ∣₁;
     still = λ e. absurd (true≢false e);
   };
   count = 1;
   committed = true;
-  error = None;
   counts = refl;
   named = λ e. (refl, ∣ got_name ∣₁);
   left = λ e. absurd (true≢false e);
-}
-
-pub keeps_block : KeepsPlace (paths_of new_local.part.names Refused) (paths_of local_with_block.part.names Refused)
-    false false opened appended
-keeps_block = record {
-  same = refl;
-  keeps = record { own = λ own. (refl, own); barred = λ barred. inr barred };
-  rests = λ e. absurd (true≢false (sym e));
-}
-
-pub keeps_name : KeepsPlace (paths_of local_with_block.part.names Refused) (paths_of stored_local.part.names Refused)
-    false true appended given
-keeps_name = record {
-  same = refl;
-  keeps = record {
-    own = λ own. (inl refl, (tt, ((refl, refl), own)));
-    barred = λ barred. inr (inr (inr barred));
-  };
-  rests = λ e. absurd (true≢false (sym e));
 }
 
 unfoldable pub stores_so : DatagramStep local_source local_sink answers_from (data_bytes 1 (65 ∷ [])) at_first (Sink new_local) stores
@@ -386,13 +310,13 @@ stores_so = record {
       mid = local_with_block;
       answer = Ok done;
       decoded = (refl, refl);
-      appended = (refl, tt, keeps_block, tt);
+      appended = (refl, tt, search rules, tt);
       memory = λ e. absurd (cc);
       rest = record {
         answer = Ok done;
         commits = refl;
         refused = tt;
-        leaves = keeps_name;
+        leaves = search rules;
         effect = tt;
         answers = refl;
       };
@@ -402,16 +326,15 @@ stores_so = record {
 }
 
 pub still_open : IsOpen at_first
-still_open o = absurd (true≢false (sym o))
+still_open = search rules
 
 unfoldable pub get_runs : Converses local_source local_sink 5000 s0 (Sink new_local) s2 (Sink stored_local)
 get_runs =
-    Receives {watch = record { now = 10; reading = 10 }} Begins
-    (record { not_closed = still_open; due = λ late. absurd (omega (arith, late)) })
+    Receives {watch = at_10} Begins (record { not_closed = still_open; due = λ late. absurd (omega (arith, late)) })
     (record { time = refl; forward = omega arith })
     (record {
       next = s1;
-      again = record { now = 10; reading = 10 };
+      again = at_10;
       handles = Answers still_open stores_so;
       later = record { time = refl; forward = omega arith };
       is = refl;
@@ -419,12 +342,6 @@ get_runs =
 
 abbrev pub get_after : List SocketEvent
 get_after = (printed (end_text (ends.Complete 1)) s2).events
-
-pub keeps_all : KeepsDisk get_job [] given
-keeps_all = record {
-  own = λ own. (inl refl, (tt, ((refl, refl), (refl, (tt, own)))));
-  put = λ e. absurd (let f : Read ≡ Write = e in cc);
-}
 
 unfoldable pub get_stored : StoresWords local_source local_sink get_words 0 [] get_after [] given
 unfolding get_runs stores_so
@@ -462,7 +379,7 @@ get_stored = (
       },
     ),
   ),
-  (∣ got_name ∣₁, keeps_all),
+  (∣ got_name ∣₁, search rules),
 )
 
 -- ---- a put
@@ -528,17 +445,11 @@ sends_so = record {
     piece = 66 ∷ [];
     reads = record {
       fills = record { piece = 66 ∷ []; given = refl; count = refl; bound = omega arith };
-      read = λ e. absurd (cc);
-      fails = λ f. absurd (true≢false (sym f));
-      memory = λ e. absurd (cc);
+      read = search rules;
+      fails = search rules;
+      memory = search rules;
     };
-    gives = record {
-      mode = refl;
-      bytes = 66 ∷ [];
-      reads = record { place = refl; found = refl; pass = refl; more = refl };
-      text = λ e. (refl, refl);
-      none = λ some. absurd (true≢false (sym some));
-    };
+    gives = record { mode = refl; bytes = 66 ∷ []; reads = search rules; text = search rules; none = search rules };
     answers = refl;
   };
   again = tt;
@@ -546,12 +457,6 @@ sends_so = record {
 
 unfoldable pub completes_so : DatagramStep local_source local_sink answers_from (ack_bytes 1) sending given_file completes given_file
 completes_so = record { decoded = Some (Ack 1); says = ack_spelled 1 (omega arith); acts = (refl, refl); again = tt }
-
-abbrev pub at_10 : Watch
-at_10 = record { now = 10; reading = 10 }
-
-abbrev pub at_20 : Watch
-at_20 = record { now = 20; reading = 20 }
 
 abbrev pub p0 : State
 p0 = begun Constant 5001 0 put_first []
@@ -569,10 +474,10 @@ abbrev pub p4 : State
 p4 = renewed (reported sending completes).progress at_20 p3
 
 pub still_sending : IsOpen sending
-still_sending o = absurd (true≢false (sym o))
+still_sending = search rules
 
 pub not_yet : IsOpen put_first
-not_yet o = absurd (true≢false (sym o))
+not_yet = search rules
 
 unfoldable pub put_runs : Converses local_source local_sink 5001 p0 whole_file p4 given_file
 put_runs =

@@ -65,7 +65,8 @@ local_source = record {
 -- `tftp get 1.2.3.4:69 a L --no-dally`
 abbrev pub get_words : List (List ℕ)
 get_words =
-    codes "tftp" ∷ codes "get" ∷ codes "1.2.3.4:69" ∷ codes "a" ∷ codes "L" ∷ codes "--no-dally" ∷ []
+    codes "tftp" ∷ codes "get" ∷ codes "1.2.3.4:69" ∷ codes "a" ∷ codes "L"
+    ∷ codes "--no-dally" ∷ []
 
 -- `tftp put 1.2.3.4:69 L b`
 abbrev pub put_words : List (List ℕ)

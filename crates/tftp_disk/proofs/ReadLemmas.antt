@@ -1,13 +1,12 @@
 -- Reads of a file, and the bytes of a buffer that are left. For five functions, DiskSourceLemmas and
 -- MeasuringLemmas.
-use Rattle.std.proofs.Common.{◌≡◌, ◌≤◌, ◌<◌, ℕ, ◌+◌, ◌-◌, List, [], ◌∷◌, ◌++◌, length, take, drop, sym, ap, ◌∙◌, refl, arith, append-nil, append_assoc}
-use Rattle.std.proofs.lemmas.Grind.{common_steps}
+use Rattle.std.proofs.Common.{◌≡◌, ◌≤◌, ◌<◌, ℕ, ◌+◌, ◌-◌, List, [], ◌∷◌, ◌++◌, length, take, drop, sym, ap, ◌∙◌, refl}
+use Rattle.std.proofs.Common.{arith, append-nil, rules}
 use Rattle.std.proofs.lemmas.List.{drop-take, drop-drop, length-take, length-drop, take_all}
 use Rattle.tftp_disk.specs.DiskTrace.{DiskEvent}
 use Rattle.tftp_disk.specs.DiskTrace.DiskEvent.{Given}
-use Rattle.tftp_disk.specs.Given.{given, opened_at, examined, passed, GaveBytes}
+use Rattle.tftp_disk.specs.Given.{given, GaveBytes}
 use Rattle.tftp_disk.specs.ReadBuffer.{Refills}
-use Rattle.tftp_disk.specs.DiskSourceLaws.{no_text}
 use Rattle.tftp_file.specs.Netascii.{wire_text}
 use Rattle.tftp_wire.specs.declared.mode.Mode.{Mode}
 
@@ -18,50 +17,28 @@ reads_nothing events = record { place = refl; found = refl; pass = refl; more = 
 -- a read returned these bytes
 pub reads_given : (before after : List DiskEvent) (bytes : List ℕ) → after ≡ Given bytes ∷ before
     → GaveBytes before after bytes
-reads_given before after bytes noted =
-    record { place = ap opened_at noted; found = ap examined noted; pass = ap passed noted; more = ap given noted }
-
--- reads after reads
-pub reads_more : (before between after : List DiskEvent) (first second : List ℕ) → GaveBytes before between first
-    → GaveBytes between after second → GaveBytes before after (first ++ second)
-reads_more before between after first second p q = record {
-  place = q.place ∙ p.place;
-  found = q.found ∙ p.found;
-  pass = q.pass ∙ p.pass;
-  more = q.more ∙ ap (λ l. l ++ second) p.more ∙ append_assoc (given before) first second;
-}
+reads_given before after bytes noted = search rules
 
 -- the bytes between two places, without the first n
 pub between_rest : (xs : List ℕ) (at end n : ℕ) → at + n ≤ end
     → take (end - (at + n)) (drop (at + n) xs) ≡ drop n (take (end - at) (drop at xs))
 between_rest xs at end n fits =
     let both : end - at ≡ n + (end - (at + n)) = omega arith in
-    sym (ap (λ k. drop n (take k (drop at xs))) both ∙ drop-take n (end - (at + n)) (drop at xs)
-    ∙ ap (take (end - (at + n))) (drop-drop n at xs))
+    search (rules, drop-take, drop-drop)
 
 -- the first n bytes are taken of those between two places
 pub taken_between : (xs now : List ℕ) (at end n : ℕ) → at ≤ end → take (end - at) (drop at xs) ≡ now
     → n ≤ length now → take (end - (at + n)) (drop (at + n) xs) ≡ drop n now
-taken_between xs now at end n order is fits =
-    let long = length-take (end - at) (drop at xs) in
-    let same = ap length is in
-    between_rest xs at end n (omega arith) ∙ ap (drop n) is
+taken_between xs now at end n order is fits = search (rules, length-take, between_rest)
 
 -- there are bytes between two places
 pub some_between : (xs now : List ℕ) (at end : ℕ) → at < end → end ≤ length xs
     → take (end - at) (drop at xs) ≡ now → 0 < length now
-some_between xs now at end order within is =
-    let long = length-take (end - at) (drop at xs) in
-    let rest = length-drop at xs in
-    let same = ap length is in
-    omega arith
+some_between xs now at end order within is = search (rules, length-take, length-drop)
 
 -- the bytes from the first place on
 pub from_start : (items xs : List ℕ) (n : ℕ) → items ≡ xs → take (n - 0) (drop 0 items) ≡ take n xs
-from_start items xs n is = ap (λ l. take (n - 0) (drop 0 l)) is ∙ first xs n
-  where
-    first : (xs : List ℕ) (n : ℕ) → take (n - 0) (drop 0 xs) ≡ take n xs
-    first xs n = grind (arith, common_steps)
+from_start items xs n is = search rules
 
 -- all bytes from the first place on
 pub all_from_start : (items xs : List ℕ) (n : ℕ) → items ≡ xs → n ≡ length items → take (n - 0) (drop 0 items) ≡ xs
@@ -76,12 +53,7 @@ no_length (x ∷ xs) none = absurd (omega arith)
 -- a buffer with text left is not refilled
 pub not_refilled : (mode : Mode) (events : List DiskEvent) (left : List ℕ) → 0 < length left
     → Refills mode events events left left
-not_refilled mode events left some = record {
-  bytes = [];
-  reads = reads_nothing events;
-  added = sym (no_text mode left);
-  end = λ none. absurd (omega (arith, ap length none));
-}
+not_refilled mode events left some = search rules
 
 -- an empty buffer has the text of the bytes that a read returned
 pub refilled : (mode : Mode) (before after : List DiskEvent) (left left_after bytes : List ℕ) → left ≡ []

@@ -1,6 +1,6 @@
 -- An OACK is no longer than a request may be. For `oack`.
-use Rattle.tftp_ends.proofs.Common.{◌≡◌, ◌*◌, ◌≤◌, ℕ, List, length, ap, arith, options_bytes, Known, agreed_options}
-use Rattle.std.proofs.Common.{suc}
+use Rattle.tftp_ends.proofs.Common.{◌≡◌, ◌*◌, ◌≤◌, ℕ, List, length, options_bytes, Known, agreed_options}
+use Rattle.std.proofs.Common.{rules}
 use Rattle.tftp_wire.specs.declared.limits.TheConstants.{MAX_REQUEST}
 use Rattle.tftp_negotiate.specs.Agreed.{IsAgreement}
 use Rattle.tftp_negotiate.specs.Laws.{AgreementsAreShort}
@@ -10,7 +10,4 @@ use Rattle.tftp_ends.specs.Opening.{oack_bytes}
 pub oack_short : AgreementsAreShort → (agreed : List Known) (bytes : List ℕ) → IsAgreement agreed
     → length (options_bytes (agreed_options agreed)) ≤ 49 * length agreed → bytes ≡ oack_bytes agreed
     → length bytes ≤ MAX_REQUEST
-oack_short law agreed bytes rule short is =
-    let three = law agreed rule in
-    let len : length bytes ≡ suc (suc (length (options_bytes (agreed_options agreed)))) = ap length is in
-    omega (arith, short, three, len)
+oack_short law agreed bytes rule short is = search rules

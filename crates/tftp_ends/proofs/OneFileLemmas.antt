@@ -1,8 +1,8 @@
 -- What a call over the one file of an end ensures, as a call over its files has it. For `End::handle_datagram` and
 -- `End::on_datagram`.
-use Rattle.tftp_ends.proofs.Common.{◌≡◌, ℕ, List, Result, Ok, Err, SourceMeaning, SinkMeaning, Files, Endpoint, Step}
-use Rattle.tftp_ends.proofs.Common.{EndState, Turn, reported}
-use Rattle.std.proofs.Common.{IfOk}
+use Rattle.tftp_ends.proofs.Common.{◌≡◌, ℕ, List, Result, SourceMeaning, SinkMeaning, Files, Endpoint, Step, EndState}
+use Rattle.tftp_ends.proofs.Common.{Turn, reported}
+use Rattle.std.proofs.Common.{IfOk, rules}
 use Rattle.tftp_ends.specs.declared.fault.EndFault.{EndFault}
 use Rattle.tftp_ends.specs.Step.{DatagramStep}
 
@@ -15,5 +15,4 @@ module _ {S K : Type 0} (sources : SourceMeaning S) (sinks : SinkMeaning K) (fro
       IfOk result (λ r. (turn : Turn) × over turn × gives r turn × (step_in r ≡ reported e turn)) →
       IfOk result (λ r. (turn : Turn) × DatagramStep sources sinks from bytes e files turn files' × gives r turn
       × (step_in r ≡ reported e turn))
-  steps_over step_in gives over files files' (Err fault) step h = tt
-  steps_over step_in gives over files files' (Ok r) step h = (h.0, step h.0 h.1, h.2, h.3)
+  steps_over step_in gives over files files' result step h = search rules

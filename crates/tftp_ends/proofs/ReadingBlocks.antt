@@ -1,7 +1,7 @@
 -- The result of a fill, without the bytes that were in the buffer before it. For `read_data`.
-use Rattle.tftp_ends.proofs.Common.{◌≡◌, ◌≢◌, ℕ, false, List, [], ◌++◌, length, take, Option, Some, None, Result, Ok}
-use Rattle.tftp_ends.proofs.Common.{Err, refl, sym, ap, subst, ◌∙◌, ne_eqb}
-use Rattle.std.proofs.Common.{drop}
+use Rattle.tftp_ends.proofs.Common.{◌≡◌, ◌≢◌, ℕ, false, List, [], ◌++◌, length, Option, Result, Ok, Err, sym, ap, subst}
+use Rattle.tftp_ends.proofs.Common.{◌∙◌, ne_eqb}
+use Rattle.std.proofs.Common.{drop, rules}
 use Rattle.std.proofs.Math.Seq.{drop-append_seam}
 use Rattle.tftp_file.specs.Source.{Fills, added_to}
 use Rattle.tftp_file.specs.declared.fault.FileFault.{FileFault}
@@ -12,10 +12,7 @@ use Rattle.tftp_ends.specs.Room.{ReadsData}
 pub fills_after : (before after : Option (List ℕ)) (want k : ℕ) (old new : List ℕ) →
     Fills before after want old new (Ok k) →
     (piece : List ℕ) × (new ≡ old ++ piece) × Fills before after want [] piece (Ok k)
-fills_after (Some left) after want k old new f =
-    (take k left, f.given, record { count = f.count; given = refl; rest = f.rest })
-fills_after None after want k old new f =
-    (f.piece, f.given, record { piece = f.piece; given = refl; count = f.count; bound = f.bound })
+fills_after before after want k old new f = search rules
 
 -- the bytes that were added to a buffer are those after its old ones
 pub added_piece : (gives : List ℕ → Type 0) (old new piece : List ℕ) → new ≡ old ++ piece →

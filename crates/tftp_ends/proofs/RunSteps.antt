@@ -1,36 +1,30 @@
 -- The end after one step. For RunLemmas.
 use Rattle.tftp_ends.proofs.Common.{◌≡◌, ℕ, ◌*◌, ◌<◌, ◌≤◌, Bool, true, false, List, [], length, Option, Some, None}
-use Rattle.tftp_ends.proofs.Common.{Result, Ok, Err, refl, sym, ◌∙◌, subst, arith, ◌==◌, ◌&&◌, nat_lt, nat_le}
-use Rattle.tftp_ends.proofs.Common.{if◌then◌else◌, is_some, is_none, true≢false, lt-ltb, eqb-true, Packet, Read, Write}
-use Rattle.tftp_ends.proofs.Common.{Data, Ack, Error, Oack, has_error_opcode, DEFAULT_BLOCK, Asked, Known, Refusal}
-use Rattle.tftp_ends.proofs.Common.{agreement, SourceMeaning, SinkMeaning, StoreFault, Files, Action, Respond, Send}
-use Rattle.tftp_ends.proofs.Common.{Store, Response, Ignore, WrongPeer, ResendReply, Close, Refuse, Complete, Endpoint}
-use Rattle.tftp_ends.proofs.Common.{ErrorReply, Outcome, Fresh, Phase, Waiting, Sending, Receiving, Dallying, Closed}
-use Rattle.tftp_ends.proofs.Common.{Terms, Decodes, is_wrong_peer, garbled_response, packet_action, EndState, is_sender}
-use Rattle.tftp_ends.proofs.Common.{is_progress, terms_of, outcome_of, receiver_action, next_action, IsOpen}
-use Rattle.tftp_ends.proofs.Common.{illegal_action, Done, Turn, GoesOn, with_position, response_turn, refused_turn}
-use Rattle.tftp_ends.proofs.Common.{sent_turn, committed_turn, holding, ack_bytes, data_bytes, block_length}
+use Rattle.tftp_ends.proofs.Common.{Result, refl, sym, subst, arith, ◌==◌, ◌&&◌, nat_lt, nat_le, if◌then◌else◌, is_some}
+use Rattle.tftp_ends.proofs.Common.{is_none, true≢false, lt-ltb, eqb-true, Packet, Read, Write, Data, Ack, Error, Oack}
+use Rattle.tftp_ends.proofs.Common.{has_error_opcode, DEFAULT_BLOCK, Asked, Known, Refusal, agreement, SourceMeaning}
+use Rattle.tftp_ends.proofs.Common.{SinkMeaning, StoreFault, Files, Action, Respond, Send, Store, Response, Ignore}
+use Rattle.tftp_ends.proofs.Common.{WrongPeer, ResendReply, Close, Refuse, Complete, Endpoint, ErrorReply, Outcome}
+use Rattle.tftp_ends.proofs.Common.{Phase, Waiting, Sending, Receiving, Dallying, Closed, Terms, Decodes}
+use Rattle.tftp_ends.proofs.Common.{garbled_response, packet_action, EndState, is_sender, is_progress, outcome_of}
+use Rattle.tftp_ends.proofs.Common.{receiver_action, next_action, IsOpen, illegal_action, Done, Turn, GoesOn}
+use Rattle.tftp_ends.proofs.Common.{with_position, response_turn, refused_turn, sent_turn, data_bytes, block_length}
 use Rattle.tftp_ends.proofs.Common.{is_readable, reader_action, writer_action, accept_action, begin_action}
 use Rattle.tftp_ends.proofs.Common.{begin_with_action, refusal_action, default_terms, agreed_terms, no_answer}
-use Rattle.std.proofs.Common.{◌+◌, ◌/◌}
+use Rattle.std.proofs.Common.{◌+◌, ◌/◌, rules}
 use Rattle.std.proofs.lemmas.Bool.{ltb-true}
 use Rattle.std.proofs.Math.Nat.{div-lt_iff_lt-mul}
 use Rattle.tftp_negotiate.specs.declared.known.Kind.TheVariants as kinds
 use Rattle.tftp_negotiate.specs.declared.refusal.Refusal.TheVariants as refusals
-use Rattle.tftp_file.specs.declared.files.Files.TheVariants.{Source, Sink}
-use Rattle.tftp_ends.specs.declared.action.Response.TheVariants.{Accept}
 use Rattle.tftp_ends.specs.declared.error_reply.ErrorReply.TheVariants as replies
 use Rattle.tftp_ends.specs.declared.outcome.Outcome.TheVariants as outcomes
 use Rattle.tftp_ends.specs.declared.phase.Dally.{Dally}
 use Rattle.tftp_ends.specs.Action.{datagram_action}
 use Rattle.tftp_ends.specs.End.{is_client}
-use Rattle.tftp_ends.specs.Phase.{completed}
 use Rattle.tftp_ends.specs.Receiver.{data_action, dally_response}
 use Rattle.tftp_ends.specs.Sender.{sender_action, acked_action}
 use Rattle.tftp_ends.specs.Step.{Acts, DatagramStep}
-use Rattle.tftp_ends.specs.Step.{commit_reply}
-use Rattle.tftp_ends.specs.Step.{error_bytes, result_count_is}
-use Rattle.tftp_ends.proofs.RunMoves.{Kept, rank, waits, Moves, if_either, one_at_most, stays, goes_into, closes}
+use Rattle.tftp_ends.proofs.RunMoves.{Kept, rank, waits, Moves, if_either, stays}
 
 -- ---- after a datagram
 module _ {S K : Type 0} (sources : SourceMeaning S) (sinks : SinkMeaning K)
@@ -48,26 +42,17 @@ module _ {S K : Type 0} (sources : SourceMeaning S) (sinks : SinkMeaning K)
   ignores = responds Ignore (stays e None kept (λ _. (refl, refl)))
 
   answers_wrong_peer : Moving (Respond WrongPeer)
-  answers_wrong_peer =
-      responds WrongPeer
-      (stays e (Some (record { to = from; bytes = error_bytes replies.UnknownTransferId })) kept
-      (λ _. (refl, refl)))
+  answers_wrong_peer = search rules
 
   answers_again : is_sender e.role.side ≡ false → Moving (Respond ResendReply)
-  answers_again r =
-      responds ResendReply
-      (stays e (Some (record { to = from; bytes = e.position.last_sent })) kept
-      (λ s. absurd (true≢false (sym s ∙ r))))
+  answers_again r = search rules
 
   gives_up : (outcome : Outcome) → Moving (Respond (Close outcome))
-  gives_up outcome =
-      responds (Close outcome) (closes e (terms_of e.position.phase) outcome None open_now kept refl refl)
+  gives_up outcome = search rules
 
   refuses : (terms : Option Terms) (reply : ErrorReply) (outcome : Outcome) →
       Moving (Respond (Refuse terms reply outcome))
-  refuses terms reply outcome =
-      responds (Refuse terms reply outcome)
-      (closes e terms outcome (Some (record { to = from; bytes = error_bytes reply })) open_now kept refl refl)
+  refuses terms reply outcome = search rules
 
   -- a block was read from a source
   filled : (terms : Terms) (number : ℕ) (piece : List ℕ) (b : Bool) → number ≤ 65535 →
@@ -76,75 +61,22 @@ module _ {S K : Type 0} (sources : SourceMeaning S) (sinks : SinkMeaning K)
       Moves e
       (if b then sent_turn (Sending terms number) from (data_bytes number piece) e
       else refused_turn terms replies.FileChanged outcomes.SourceFault from e)
-  filled terms number piece true n fits r w p =
-      let one = one_at_most (is_progress e.position.phase (Sending terms number)) in
-      goes_into e (Sending terms number) (data_bytes number piece) from
-      (Some (record { to = from; bytes = data_bytes number piece })) (n, fits) (omega arith) (omega (arith, w))
-      (λ s. (refl, λ d. p))
-  filled terms number piece false n fits r w p =
-      closes e (Some terms) outcomes.SourceFault
-      (Some (record { to = from; bytes = error_bytes replies.FileChanged })) open_now kept refl refl
+  filled terms number piece b n fits r w p = search rules
 
   sends : (terms : Terms) (number : ℕ) → number ≤ 65535 → e.role.length < 65535 * terms.size →
       rank e.position.phase + 1 ≤ number → waits e.position.phase ≡ 0 →
       is_progress e.position.phase (Sending terms number) ≡ true → Moving (Send terms number)
-  sends terms number n fits r w p turn (Source source) (Source source') h =
-      subst (λ (t : Turn). Moves e t) (sym h.answers)
-      (filled terms number h.piece
-      (result_count_is (block_length e.role.length terms.size number) h.answer) n fits r w p)
-  sends terms number n fits r w p turn (Source source) (Sink sink') h = absurd h
-  sends terms number n fits r w p turn (Sink sink) (Source source') h = absurd h
-  sends terms number n fits r w p turn (Sink sink) (Sink sink') h = absurd h
-
-  -- the measure does not depend on the text held back
-  from_holding : (after : List ℕ) (turn : Turn) → Moves (holding after e) turn → Moves e turn
-  from_holding after turn m =
-      record { kept = m.kept; left = m.left; rises = m.rises; waiting = m.waiting; oack = m.oack; sends = m.sends }
-
-  acknowledges : (p : Phase) (after : List ℕ) (number : ℕ) → is_sender e.role.side ≡ false →
-      Kept e.role.side e.role.length p → rank e.position.phase + 1 ≤ rank p → waits e.position.phase ≤ waits p →
-      Moves e (sent_turn p from (ack_bytes number) (holding after e))
-  acknowledges p after number r k l w =
-      let one = one_at_most (is_progress e.position.phase p) in
-      from_holding after (sent_turn p from (ack_bytes number) (holding after e))
-      (goes_into (holding after e) p (ack_bytes number) from (Some (record { to = from; bytes = ack_bytes number })) k
-      (omega arith) w (λ s. absurd (true≢false (sym s ∙ r))))
-
-  committed : (terms : Terms) (number : ℕ) (after : List ℕ) (answer : Result Done StoreFault) →
-      is_sender e.role.side ≡ false → number ≤ 65535 → rank e.position.phase ≤ number → waits e.position.phase ≡ 0 →
-      Moves e (committed_turn terms number from (holding after e) answer)
-  committed terms number after (Ok done) r n l w =
-      acknowledges (Dallying terms number Fresh) after number r (n, r) (omega arith) (omega (arith, w))
-  committed terms number after (Err fault) r n l w =
-      from_holding after (refused_turn terms (commit_reply fault) outcomes.StoreFault from (holding after e))
-      (closes (holding after e) (Some terms) outcomes.StoreFault
-      (Some (record { to = from; bytes = error_bytes (commit_reply fault) })) open_now kept refl refl)
+  sends terms number n fits r w p turn h8 h9 h = search (rules, filled, block_length)
 
   stored : (terms : Terms) (number : ℕ) (last : Bool) (after : List ℕ) (mid sink' : K) (answer : Result Done StoreFault)
       (turn : Turn) →
       is_sender e.role.side ≡ false → number ≤ 65535 → rank e.position.phase ≤ number → waits e.position.phase ≡ 0 →
       GoesOn sinks terms number from e last after mid answer turn sink' → Moves e turn
-  stored terms number true after mid sink' (Err fault) turn r n l w h =
-      subst (λ (t : Turn). Moves e t) (sym h.0)
-      (closes e (Some terms) outcomes.StoreFault
-      (Some (record { to = from; bytes = error_bytes replies.DiskFull })) open_now kept refl refl)
-  stored terms number false after mid sink' (Err fault) turn r n l w h =
-      subst (λ (t : Turn). Moves e t) (sym h.0)
-      (closes e (Some terms) outcomes.StoreFault
-      (Some (record { to = from; bytes = error_bytes replies.DiskFull })) open_now kept refl refl)
-  stored terms number true after mid sink' (Ok done) turn r n l w h =
-      subst (λ (t : Turn). Moves e t) (sym h.answers) (committed terms number after h.answer r n l w)
-  stored terms number false after mid sink' (Ok done) turn r n l w h =
-      subst (λ (t : Turn). Moves e t) (sym h.0)
-      (acknowledges (Receiving terms number) after number r (n, r) (omega arith) (omega (arith, w)))
+  stored terms number last after mid sink' answer turn r n l w h = search rules
 
   stores : (terms : Terms) (number : ℕ) → is_sender e.role.side ≡ false → number ≤ 65535 →
       rank e.position.phase ≤ number → waits e.position.phase ≡ 0 → Moving (Store terms number)
-  stores terms number r n l w turn (Sink sink) (Sink sink') h =
-      stored terms number (nat_lt (length h.0) terms.size) h.2.after h.2.mid sink' h.2.answer turn r n l w h.2.rest
-  stores terms number r n l w turn (Sink sink) (Source source') h = absurd h.2
-  stores terms number r n l w turn (Source source) (Sink sink') h = absurd h.2
-  stores terms number r n l w turn (Source source) (Source source') h = absurd h.2
+  stores terms number r n l w turn h7 h8 h = search (rules, stored, nat_lt, length)
 
 -- ---- an end by its phase
 module _ {S K : Type 0} (sources : SourceMeaning S) (sinks : SinkMeaning K)
@@ -190,12 +122,7 @@ module _ {S K : Type 0} (sources : SourceMeaning S) (sinks : SinkMeaning K)
   -- a sender
   completes : (terms : Terms) (n : ℕ) (kept : Kept e0.role.side e0.role.length (Sending terms n)) →
       Going (Sending terms n) refl kept (Respond Complete)
-  completes terms n kept =
-      let one = one_at_most (is_progress (Sending terms n) (completed (Sending terms n))) in
-      responds sources sinks (at (Sending terms n)) from bytes refl kept Complete
-      (goes_into (at (Sending terms n))
-      (completed (Sending terms n)) e0.position.last_sent e0.position.last_sent_to None kept.0 (omega arith)
-      (omega arith) (λ s. (refl, λ d. absurd (true≢false (sym d)))))
+  completes terms n kept = search rules
 
   acked_goes : (terms : Terms) (n acked : ℕ) (kept : Kept e0.role.side e0.role.length (Sending terms n)) →
       Going (Sending terms n) refl kept (acked_action e0.role.length terms n acked)
@@ -207,33 +134,18 @@ module _ {S K : Type 0} (sources : SourceMeaning S) (sinks : SinkMeaning K)
       let positive : 0 < terms.size = omega arith in
       let d : e0.role.length / terms.size < 65535 =
       (div-lt_iff_lt-mul {k = terms.size} {x = e0.role.length} {y = 65535} positive).1 fits in
-      if_either P (acked == n) onward other
-      (λ _. if_either P (nat_lt n (e0.role.length / terms.size + 1)) (Send terms (n + 1)) (Respond Complete)
-      (λ l. let more : n < e0.role.length / terms.size + 1 = ltb-true n (e0.role.length / terms.size + 1) l in
-      let step : nat_lt n (n + 1) ≡ true = lt-ltb n (n + 1) (omega arith) in
-      next (Sending terms n) refl kept terms (n + 1) (omega arith) fits (omega arith) refl (rw step refl))
-      (λ _. completes terms n kept))
-      (λ _. if_either P (nat_lt acked n) (Respond Ignore) (illegal_action terms)
-      (λ _. ignored (Sending terms n) refl kept)
-      (λ _. refused_by (Sending terms n) refl kept (Some terms) replies.IllegalOperation outcomes.Illegal))
+      search (rules, if_either, nat_lt, ltb-true, true, lt-ltb, next, completes, illegal_action, ignored, refused_by)
 
   sender_goes : (client : Bool) (terms : Terms) (n : ℕ) (kept : Kept e0.role.side e0.role.length (Sending terms n))
       (decoded : Option Packet) →
       Going (Sending terms n) refl kept (sender_action client e0.role.length terms n decoded)
-  sender_goes client terms n kept None =
-      refused_by (Sending terms n) refl kept (Some terms) replies.IllegalOperation outcomes.Illegal
-  sender_goes client terms n kept (Some (Read r)) =
-      refused_by (Sending terms n) refl kept (Some terms) replies.IllegalOperation outcomes.Illegal
-  sender_goes client terms n kept (Some (Write r)) =
-      refused_by (Sending terms n) refl kept (Some terms) replies.IllegalOperation outcomes.Illegal
-  sender_goes client terms n kept (Some (Data number piece)) =
-      refused_by (Sending terms n) refl kept (Some terms) replies.IllegalOperation outcomes.Illegal
-  sender_goes client terms n kept (Some (Ack acked)) = acked_goes terms n acked kept
-  sender_goes client terms n kept (Some (Error code text)) = gone (Sending terms n) refl kept (outcomes.PeerError code)
-  sender_goes client terms n kept (Some (Oack options)) =
-      if_either (Going (Sending terms n) refl kept) (client && terms.by_oack) (Respond Ignore) (illegal_action terms)
-      (λ _. ignored (Sending terms n) refl kept)
-      (λ _. refused_by (Sending terms n) refl kept (Some terms) replies.IllegalOperation outcomes.Illegal)
+  sender_goes client terms n kept None = search rules
+  sender_goes client terms n kept (Some (Read r)) = search rules
+  sender_goes client terms n kept (Some (Write r)) = search rules
+  sender_goes client terms n kept (Some (Data number piece)) = search rules
+  sender_goes client terms n kept (Some (Ack acked)) = acked_goes _ n acked kept
+  sender_goes client terms n kept (Some (Error code text)) = gone _ refl kept (outcomes.PeerError code)
+  sender_goes client terms n kept (Some (Oack options)) = search rules
 
   -- a receiver, in a phase of this rank at most
   data_goes : (p : Phase) (o : is_some (outcome_of p) ≡ false) (kept : Kept e0.role.side e0.role.length p)
@@ -244,67 +156,36 @@ module _ {S K : Type 0} (sources : SourceMeaning S) (sinks : SinkMeaning K)
       let P = Going p o kept in
       let last = nat_lt (length piece) terms.size in
       let storing =
-      if is_readable e0.role.mode text piece last then Store terms number
-      else Respond (Refuse (Some terms) replies.NotNetascii outcomes.NotNetascii) in
+      if is_readable e0.role.mode text piece last then Store terms number else Respond (Refuse (Some terms)
+      replies.NotNetascii outcomes.NotNetascii) in
       let fitting =
-      if number == 65535 && (length piece == terms.size)
-      then Respond (Refuse (Some terms) replies.FileTooLarge outcomes.TooLarge) else storing in
+      if number == 65535 && (length piece == terms.size) then Respond (Refuse (Some terms) replies.FileTooLarge
+      outcomes.TooLarge) else storing in
       let onward =
       if number == stored + 1 then next_action e0.role.mode text terms number piece else illegal_action terms in
       let other = if nat_lt number stored then Respond Ignore else onward in
-      if_either P (number == stored) (Respond ResendReply) other (λ _. again p o kept r)
-      (λ _. if_either P (nat_lt number stored) (Respond Ignore) onward (λ _. ignored p o kept)
-      (λ _. if_either P (number == stored + 1) (next_action e0.role.mode text terms number piece) (illegal_action terms)
-      (λ is. let next_is : number ≡ stored + 1 = eqb-true number (stored + 1) is in
-      if_either P (nat_lt terms.size (length piece)) (illegal_action terms) fitting
-      (λ _. refused_by p o kept (Some terms) replies.IllegalOperation outcomes.Illegal)
-      (λ _. if_either P (number == 65535 && (length piece == terms.size))
-      (Respond (Refuse (Some terms) replies.FileTooLarge outcomes.TooLarge)) storing
-      (λ _. refused_by p o kept (Some terms) replies.FileTooLarge outcomes.TooLarge)
-      (λ _. if_either P (is_readable e0.role.mode text piece last) (Store terms number)
-      (Respond (Refuse (Some terms) replies.NotNetascii outcomes.NotNetascii))
-      (λ _. store p o kept terms number r n (omega arith) w)
-      (λ _. refused_by p o kept (Some terms) replies.NotNetascii outcomes.NotNetascii))))
-      (λ _. refused_by p o kept (Some terms) replies.IllegalOperation outcomes.Illegal)))
+      if_either P (number == stored) (Respond ResendReply) other (λ _. again p o kept r) (λ _. if_either P (nat_lt
+      number stored) (Respond Ignore) onward (λ _. ignored p o kept) (λ _. if_either P _ _ _ (λ is. let next_is : number
+      ≡ stored + 1 = eqb-true number (stored + 1) is in
+      if_either P (nat_lt terms.size (length piece)) (illegal_action terms) fitting (λ _. refused_by p o kept (Some
+      terms) replies.IllegalOperation outcomes.Illegal) (λ _. if_either P (number == 65535 && (length piece ==
+      terms.size)) (Respond (Refuse (Some terms) replies.FileTooLarge outcomes.TooLarge)) storing (λ _. refused_by p o
+      kept (Some terms) replies.FileTooLarge outcomes.TooLarge) (λ _. if_either P (is_readable e0.role.mode text piece
+      last) (Store terms number) (Respond (Refuse (Some terms) replies.NotNetascii outcomes.NotNetascii)) (λ _. store p
+      o kept terms number r n (omega arith) w) (λ _. refused_by p o kept (Some terms) replies.NotNetascii
+      outcomes.NotNetascii)))) (λ _. refused_by p o kept (Some terms) replies.IllegalOperation outcomes.Illegal)))
 
   receiver_goes : (p : Phase) (o : is_some (outcome_of p) ≡ false) (kept : Kept e0.role.side e0.role.length p)
       (client : Bool) (text : List ℕ) (terms : Terms) (stored : ℕ) (decoded : Option Packet) →
       is_sender e0.role.side ≡ false → Decodes bytes decoded → rank p ≤ stored + 1 → waits p ≡ 0 →
       Going p o kept (receiver_action client e0.role.mode text terms stored decoded)
-  receiver_goes p o kept client text terms stored None r d l w =
-      refused_by p o kept (Some terms) replies.IllegalOperation outcomes.Illegal
-  receiver_goes p o kept client text terms stored (Some (Read q)) r d l w =
-      refused_by p o kept (Some terms) replies.IllegalOperation outcomes.Illegal
-  receiver_goes p o kept client text terms stored (Some (Write q)) r d l w =
-      refused_by p o kept (Some terms) replies.IllegalOperation outcomes.Illegal
-  receiver_goes p o kept client text terms stored (Some (Data number piece)) r d l w =
-      let small : number < 65536 = d.valid.1 in
-      data_goes p o kept text terms stored number piece r (omega arith) l w
-  receiver_goes p o kept client text terms stored (Some (Ack acked)) r d l w =
-      refused_by p o kept (Some terms) replies.IllegalOperation outcomes.Illegal
-  receiver_goes p o kept client text terms stored (Some (Error code words)) r d l w =
-      gone p o kept (outcomes.PeerError code)
-  receiver_goes p o kept client text terms stored (Some (Oack options)) r d l w =
-      let P = Going p o kept in
-      let still = if stored == 0 then Respond ResendReply else Respond Ignore in
-      if_either P (client && terms.by_oack) still (illegal_action terms)
-      (λ _. if_either P (stored == 0) (Respond ResendReply) (Respond Ignore) (λ _. again p o kept r)
-      (λ _. ignored p o kept))
-      (λ _. refused_by p o kept (Some terms) replies.IllegalOperation outcomes.Illegal)
+  receiver_goes p o kept client text terms stored decoded r d l w =
+      search (rules, refused_by, data_goes, gone, if_either, illegal_action, again, ignored)
 
   dally_goes : (terms : Terms) (n : ℕ) (dally : Dally)
       (kept : Kept e0.role.side e0.role.length (Dallying terms n dally)) (decoded : Option Packet) →
       Going (Dallying terms n dally) refl kept (Respond (dally_response n decoded))
-  dally_goes terms n dally kept None = ignored (Dallying terms n dally) refl kept
-  dally_goes terms n dally kept (Some (Read r)) = ignored (Dallying terms n dally) refl kept
-  dally_goes terms n dally kept (Some (Write r)) = ignored (Dallying terms n dally) refl kept
-  dally_goes terms n dally kept (Some (Data number piece)) =
-      if_either (λ (r : Response). Going (Dallying terms n dally) refl kept (Respond r))
-      (number == n) ResendReply Ignore
-      (λ _. again (Dallying terms n dally) refl kept kept.1) (λ _. ignored (Dallying terms n dally) refl kept)
-  dally_goes terms n dally kept (Some (Ack acked)) = ignored (Dallying terms n dally) refl kept
-  dally_goes terms n dally kept (Some (Error code text)) = ignored (Dallying terms n dally) refl kept
-  dally_goes terms n dally kept (Some (Oack options)) = ignored (Dallying terms n dally) refl kept
+  dally_goes terms n dally kept decoded = search rules
 
   -- a client that waits
   module _ (asked : Asked) (limit : ℕ) where
@@ -315,36 +196,18 @@ module _ {S K : Type 0} (sources : SourceMeaning S) (sinks : SinkMeaning K)
     no_answer_goes = refused_by waiting refl tt None replies.IllegalOperation outcomes.Illegal
 
     refusal_goes : (refusal : Refusal) → Going waiting refl tt (refusal_action refusal)
-    refusal_goes refusals.Repeated =
-        refused_by waiting refl tt None replies.OptionRefused (outcomes.Refused refusals.Repeated)
-    refusal_goes refusals.TooLarge = refused_by waiting refl tt None replies.DiskFull outcomes.TooLarge
-    refusal_goes refusals.NotAsked =
-        refused_by waiting refl tt None replies.OptionRefused (outcomes.Refused refusals.NotAsked)
-    refusal_goes refusals.BadValue =
-        refused_by waiting refl tt None replies.OptionRefused (outcomes.Refused refusals.BadValue)
+    refusal_goes refusal = search rules
 
     accept_goes : is_sender e0.role.side ≡ false → (answer : Result (List Known) Refusal) →
         Going waiting refl tt (accept_action from answer)
-    accept_goes r (Ok agreed) =
-        let terms = agreed_terms from agreed in
-        responds sources sinks (at waiting) from bytes refl tt (Accept terms)
-        (goes_into (at waiting) (Receiving terms 0) (ack_bytes 0) from
-        (Some (record { to = from; bytes = ack_bytes 0 })) (omega arith, r) (omega arith) (omega arith)
-        (λ s. absurd (true≢false (sym s ∙ r))))
-    accept_goes r (Err refusal) = refusal_goes refusal
+    accept_goes r answer = search rules
 
     begin_goes : (terms : Terms) → Going waiting refl tt (begin_action e0.role.length terms)
-    begin_goes terms =
-        if_either (Going waiting refl tt) (nat_lt e0.role.length (65535 * terms.size)) (Send terms 1)
-        (Respond (Refuse None replies.FileTooLarge outcomes.TooLarge))
-        (λ l. next waiting refl tt terms 1 (omega arith) (ltb-true e0.role.length (65535 * terms.size) l)
-        (omega arith) refl refl)
-        (λ _. refused_by waiting refl tt None replies.FileTooLarge outcomes.TooLarge)
+    begin_goes terms = search (rules, if_either, nat_lt, next, ltb-true, refused_by)
 
     begin_with_goes : (answer : Result (List Known) Refusal) →
         Going waiting refl tt (begin_with_action from e0.role.length answer)
-    begin_with_goes (Ok agreed) = begin_goes (agreed_terms from agreed)
-    begin_with_goes (Err refusal) = refusal_goes refusal
+    begin_with_goes answer = search (rules, begin_goes, agreed_terms, refusal_goes)
 
     reader_goes : is_sender e0.role.side ≡ false → (decoded : Option Packet) → Decodes bytes decoded →
         Going waiting refl tt (reader_action e0.role.mode asked limit from decoded)
@@ -390,11 +253,7 @@ module _ {S K : Type 0} (sources : SourceMeaning S) (sinks : SinkMeaning K)
 
   garbled_goes : (p : Phase) (o : is_some (outcome_of p) ≡ false) (kept : Kept e0.role.side e0.role.length p) →
       Going p o kept (Respond (garbled_response p))
-  garbled_goes (Waiting asked limit) o kept = gone (Waiting asked limit) o kept outcomes.Illegal
-  garbled_goes (Sending terms n) o kept = gone (Sending terms n) o kept outcomes.Illegal
-  garbled_goes (Receiving terms n) o kept = gone (Receiving terms n) o kept outcomes.Illegal
-  garbled_goes (Dallying terms n dally) o kept = ignored (Dallying terms n dally) o kept
-  garbled_goes (Closed terms n complete outcome) o kept = absurd (true≢false o)
+  garbled_goes p o kept = search rules
 
   -- any datagram
   datagram_goes : (p : Phase) (o : is_some (outcome_of p) ≡ false) (kept : Kept e0.role.side e0.role.length p)
@@ -404,13 +263,12 @@ module _ {S K : Type 0} (sources : SourceMeaning S) (sinks : SinkMeaning K)
       let P = Going p o kept in
       let strange = if has_error_opcode bytes then Respond Ignore else Respond WrongPeer in
       let known =
-      if has_error_opcode bytes && is_none decoded then Respond (garbled_response p)
-      else packet_action (at p) from decoded p in
-      if_either P (is_wrong_peer (terms_of p) e0.position.last_sent_to from) strange known
-      (λ _. if_either P (has_error_opcode bytes) (Respond Ignore) (Respond WrongPeer) (λ _. ignored p o kept)
-      (λ _. answers_wrong_peer sources sinks (at p) from bytes o kept))
-      (λ _. if_either P (has_error_opcode bytes && is_none decoded) (Respond (garbled_response p))
-      (packet_action (at p) from decoded p) (λ _. garbled_goes p o kept) (λ _. packet_goes p o kept decoded d))
+      if has_error_opcode bytes && is_none decoded then Respond (garbled_response p) else packet_action (at p) from
+      decoded p in
+      if_either P _ _ _ (λ _. if_either P (has_error_opcode bytes) (Respond Ignore) (Respond WrongPeer) (λ _. ignored p
+      o kept) (λ _. answers_wrong_peer sources sinks (at p) from bytes o kept)) (λ _. if_either P (has_error_opcode
+      bytes && is_none decoded) (Respond (garbled_response p)) (packet_action (at p) from decoded p) (λ _. garbled_goes
+      p o kept) (λ _. packet_goes p o kept decoded d))
 
 -- an open end after a datagram
 pub datagram_moves : {S K : Type 0} (sources : SourceMeaning S) (sinks : SinkMeaning K)

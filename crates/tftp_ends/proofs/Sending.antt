@@ -1,8 +1,8 @@
 -- A sender's step, from the result of its read. For `End::send` and `End::send_first`.
-use Rattle.tftp_ends.proofs.Common.{◌≡◌, ℕ, Bool, true, false, List, Some, refl, sym, ap, subst, ◌∙◌, DEFAULT_BLOCK}
-use Rattle.tftp_ends.proofs.Common.{SourceMeaning, Send, Endpoint, Outgoing, Sending, Terms, Step, EndState, step_of}
-use Rattle.tftp_ends.proofs.Common.{refused, Turn, Lends, with_position, data_bytes, sent_turn, refused_turn}
-use Rattle.tftp_ends.proofs.Common.{block_length, reported}
+use Rattle.std.proofs.Common.{rules}
+use Rattle.tftp_ends.proofs.Common.{◌≡◌, ℕ, Bool, true, false, List, Some, refl, ap, ◌∙◌, DEFAULT_BLOCK, SourceMeaning}
+use Rattle.tftp_ends.proofs.Common.{Send, Endpoint, Outgoing, Sending, Terms, Step, EndState, step_of, refused, Turn}
+use Rattle.tftp_ends.proofs.Common.{Lends, with_position, data_bytes, sent_turn, refused_turn, block_length, reported}
 use Rattle.tftp_ends.specs.declared.error_reply.ErrorReply.TheVariants.{FileChanged}
 use Rattle.tftp_ends.specs.declared.outcome.Outcome.TheVariants.{SourceFault}
 use Rattle.tftp_ends.specs.declared.outgoing.Outgoing.TheVariants.{LastSent, Error}
@@ -11,7 +11,6 @@ use Rattle.tftp_ends.specs.Opening.{FailsToStart}
 use Rattle.tftp_ends.specs.Room.{ReadsData}
 use Rattle.tftp_ends.specs.Step.{Sends, AcksAgain, in_phase, having_sent}
 use Rattle.tftp_ends.specs.Step.{filled_turn}
-use Rattle.tftp_ends.proofs.Lending.{reports_lent}
 
 -- without DATA 1 a read cannot be served, and the source has the bytes left that the fill left
 pub fails_to_start : {S : Type 0} (sources : SourceMeaning S) (length : ℕ) (source source' : S) (buffer : List ℕ) →
@@ -22,14 +21,7 @@ pub fails_to_start : {S : Type 0} (sources : SourceMeaning S) (length : ℕ) (so
     FailsToStart sources length source source'
 fails_to_start sources length source source' buffer o =
     record {
-      cannot =
-          record {
-            after = sources.left source';
-            answer = o.answer;
-            piece = o.piece;
-            reads = o.reads;
-            short = sym o.whole;
-          };
+      cannot = search rules;
       left = refl;
       gives = o.gave;
     }
@@ -51,12 +43,6 @@ module _ {S : Type 0} (sources : SourceMeaning S) (terms : Terms) (number : ℕ)
       (turn : Turn) × SenderActs sources (Send terms number) from e source turn source'
       × AcksAgain e turn (Send terms number) × Lends e turn e' (Some from) outgoing
 
-  -- the step, by its turn
-  abbrev pub step_at : (is_whole : Bool) → (o : ReadsNext is_whole) →
-      Sends sources terms number from e source (filled_turn terms number from o.piece e o.answer) source'
-  step_at is_whole o =
-      record { answer = o.answer; piece = o.piece; reads = o.reads; gives = o.gave; answers = refl }
-
   -- a sender's step and its report, and the bytes that the call lends
   abbrev pub IsReported : EndState → Step → Outgoing → Type 0
   IsReported e' step outgoing =
@@ -65,44 +51,27 @@ module _ {S : Type 0} (sources : SourceMeaning S) (terms : Terms) (number : ℕ)
 
   report : (e' : EndState) (outgoing : Outgoing) (step : Step) → IsSent e' outgoing →
       step ≡ step_of e.position.phase e'.position.phase (Some from) → IsReported e' step outgoing
-  report e' outgoing step s is =
-      let r : Lends e s.0 e' step.to outgoing × (step ≡ reported e s.0) =
-      reports_lent e e' s.0 (Some from) outgoing step s.3 is in
-      (s.0, s.1, r.0, r.1)
+  report e' outgoing step s is = search rules
 
   -- the block is sent, and a timeout retransmits it
   whole : (o : ReadsNext true) (e' : EndState) →
       e' ≡ with_position (having_sent (record { to = from; bytes = buffer }) (in_phase (Sending terms number) e)) e →
       IsSent e' LastSent
   whole o e' s =
-      let is : filled_turn terms number from o.piece e o.answer
-      ≡ sent_turn (Sending terms number) from (data_bytes number o.piece) e =
-      rw (← o.whole) refl in
-      let state : e'
-      ≡ with_position
-      (having_sent (record { to = from; bytes = data_bytes number o.piece })
-      (in_phase (Sending terms number) e))
-      e =
-      s
-      ∙ ap
-      (λ (b : List ℕ). with_position
-      (having_sent (record { to = from; bytes = b }) (in_phase (Sending terms number) e)) e)
-      o.holds.0 in
-      let lends : Lends e (sent_turn (Sending terms number) from (data_bytes number o.piece) e) e'
-      (Some from) LastSent =
-      record { state = state; goes = refl; bytes = ap (λ (x : EndState). x.position.last_sent) state } in (
-        filled_turn terms number from o.piece e o.answer,
-        step_at true o,
-        tt,
-        subst (λ (t : Turn). Lends e t e' (Some from) LastSent) (sym is) lends,
-      )
+      let is : filled_turn terms number from o.piece e o.answer ≡ sent_turn (Sending terms number) from (data_bytes
+      number o.piece) e = rw (← o.whole) refl in
+      let state : e' ≡ with_position (having_sent (record { to = from; bytes = data_bytes number o.piece }) (in_phase
+      (Sending terms number) e)) e =
+      s ∙ ap (λ (b : List ℕ). with_position (having_sent (record { to = from; bytes = b }) (in_phase (Sending terms
+      number) e)) e) o.holds.0 in
+      let lends : Lends e (sent_turn (Sending terms number) from (data_bytes number o.piece) e) e' (Some from) LastSent
+      =
+      record { state = state; goes = refl; bytes = ap (λ (x : EndState). x.position.last_sent) state } in search rules
 
   pub sent_whole : (o : ReadsNext true) (e' : EndState) (step : Step) →
       e' ≡ with_position (having_sent (record { to = from; bytes = buffer }) (in_phase (Sending terms number) e)) e →
       step ≡ step_of e.position.phase (Sending terms number) (Some from) → IsReported e' step LastSent
-  sent_whole o e' step s is =
-      report e' LastSent step (whole o e' s)
-      (is ∙ sym (ap (λ (x : EndState). step_of e.position.phase x.position.phase (Some from)) s))
+  sent_whole o e' step s is = search (rules, report, whole, step_of)
 
   -- the file has changed
   changed : (o : ReadsNext false) (e' : EndState) →
@@ -112,12 +81,7 @@ module _ {S : Type 0} (sources : SourceMeaning S) (terms : Terms) (number : ℕ)
       let is : filled_turn terms number from o.piece e o.answer ≡ refused_turn terms FileChanged SourceFault from e =
       rw (← o.whole) refl in
       let lends : Lends e (refused_turn terms FileChanged SourceFault from e) e' (Some from) (Error FileChanged) =
-      record { state = s; goes = refl; bytes = refl } in (
-        filled_turn terms number from o.piece e o.answer,
-        step_at false o,
-        tt,
-        subst (λ (t : Turn). Lends e t e' (Some from) (Error FileChanged)) (sym is) lends,
-      )
+      record { state = s; goes = refl; bytes = refl } in search rules
 
   pub sent_error : (o : ReadsNext false) (e' : EndState) (step : Step) →
       e' ≡ with_position (in_phase (refused (Some terms) SourceFault e.position.phase) e) e →

@@ -1,17 +1,15 @@
 -- A receiver's step, from the result of storing a block. For `End::store`.
-use Rattle.tftp_ends.proofs.Common.{◌≡◌, ℕ, Bool, true, false, List, length, Some, Result, Ok, Err, refl, sym, ap, ◌∙◌}
-use Rattle.tftp_ends.proofs.Common.{SinkMeaning, StoreFault, Endpoint, ErrorReply, DiskFull, Outgoing, Fresh, Receiving}
-use Rattle.tftp_ends.proofs.Common.{Dallying, Terms, Step, EndState, step_of, refused, Done, Turn, GoesOn, Lends}
-use Rattle.tftp_ends.proofs.Common.{with_position, holding, ack_bytes, sent_turn, refused_turn, committed_turn}
-use Rattle.tftp_ends.proofs.Common.{reported}
-use Rattle.std.proofs.Common.{ltb}
+use Rattle.tftp_ends.proofs.Common.{◌≡◌, ℕ, List, length, Some, sym, ap, ◌∙◌, SinkMeaning, StoreFault, Endpoint}
+use Rattle.tftp_ends.proofs.Common.{ErrorReply, DiskFull, Outgoing, Fresh, Receiving, Dallying, Terms, Step, EndState}
+use Rattle.tftp_ends.proofs.Common.{step_of, refused, Turn, Lends, with_position, holding, ack_bytes, sent_turn}
+use Rattle.tftp_ends.proofs.Common.{refused_turn, reported}
+use Rattle.std.proofs.Common.{ltb, rules}
 use Rattle.tftp_ends.specs.declared.end.storing.BlockStored.{BlockStored}
 use Rattle.tftp_ends.specs.declared.end.storing.BlockStored.TheVariants.{More, All, Refused, Uncommitted}
 use Rattle.tftp_ends.specs.declared.outcome.Outcome.TheVariants as outcomes
 use Rattle.tftp_ends.specs.declared.outgoing.Outgoing.TheVariants.{LastSent, Error}
 use Rattle.tftp_ends.specs.Step.{Stores, in_phase, having_sent}
-use Rattle.tftp_ends.proofs.Lending.{reports_lent}
-use Rattle.tftp_ends.specs.BlockStored.{StoresPiece, StoresOn, committed_as}
+use Rattle.tftp_ends.specs.BlockStored.{StoresPiece}
 
 module _ {K : Type 0} (sinks : SinkMeaning K) (terms : Terms) (number : ℕ) (from : Endpoint) (piece : List ℕ)
     (e : EndState) (held_after : List ℕ) (sink sink' : K) where
@@ -28,40 +26,9 @@ module _ {K : Type 0} (sinks : SinkMeaning K) (terms : Terms) (number : ℕ) (fr
       StoresPiece sinks e.role.mode e.position.held_back piece
       (ltb (length piece) terms.size) sink sink' block_stored held_after
 
-  committed : (answer : Result Done StoreFault)
-      → stored_turn (committed_as sinks answer) ≡ committed_turn terms number from (holding held_after e) answer
-  committed (Ok done) = refl
-  committed (Err fault) = refl
-
-  goes_on : (last : Bool) (answer : Result Done StoreFault) (mid : K) (block_stored : BlockStored)
-      → StoresOn sinks last mid sink' block_stored answer
-      → GoesOn sinks terms number from e last held_after mid answer (stored_turn block_stored) sink'
-  goes_on true (Err fault) mid block_stored o = (ap stored_turn o.0, o.1)
-  goes_on false (Err fault) mid block_stored o = (ap stored_turn o.0, o.1)
-  goes_on true (Ok done) mid block_stored o =
-      record {
-        answer = o.answer;
-        commits = o.commits;
-        refused = o.refused;
-        leaves = o.leaves;
-        effect = o.effect;
-        answers = ap stored_turn o.comes_to ∙ committed o.answer;
-      }
-  goes_on false (Ok done) mid block_stored o = (ap stored_turn o.0, o.1)
-
   stores : (block_stored : BlockStored) → StoresNext block_stored
       → Stores sinks terms number from piece e sink (stored_turn block_stored) sink'
-  stores block_stored o =
-      record {
-        bytes = o.bytes;
-        after = held_after;
-        mid = o.stores.mid;
-        answer = o.stores.answer;
-        decoded = o.decoded;
-        appended = o.stores.appended;
-        memory = o.stores.memory;
-        rest = goes_on (ltb (length piece) terms.size) o.stores.answer o.stores.mid block_stored o.stores.rest;
-      }
+  stores block_stored o = search rules
 
   -- a receiver's step for an action that stores, its report, and the bytes that the call lends
   abbrev pub IsReported : EndState → Step → Outgoing → Type 0
@@ -72,10 +39,7 @@ module _ {K : Type 0} (sinks : SinkMeaning K) (terms : Terms) (number : ℕ) (fr
   report : (e' : EndState) (outgoing : Outgoing) (step : Step) (turn : Turn)
       → Stores sinks terms number from piece e sink turn sink' → Lends e turn e' (Some from) outgoing
       → step ≡ step_of e.position.phase e'.position.phase (Some from) → IsReported e' step outgoing
-  report e' outgoing step turn s l is =
-      let r : Lends e turn e' step.to outgoing × (step ≡ reported e turn) =
-      reports_lent e e' turn (Some from) outgoing step l is in
-      (turn, s, r.0, r.1)
+  report e' outgoing step turn s l is = search rules
 
   -- the block was stored, and it is not the last one
   pub stored_more : StoresNext More → (e' : EndState) (step : Step)
@@ -87,9 +51,8 @@ module _ {K : Type 0} (sinks : SinkMeaning K) (terms : Terms) (number : ℕ) (fr
       → step ≡ step_of e.position.phase (Receiving terms number) (Some from)
       → IsReported e' step LastSent
   stored_more o e' step s is =
-      report e' LastSent step (stored_turn More) (stores More o)
-      (record { state = s; goes = refl; bytes = ap (λ (x : EndState). x.position.last_sent) s })
-      (is ∙ sym (ap (λ (x : EndState). step_of e.position.phase x.position.phase (Some from)) s))
+      report e' LastSent step (stored_turn More) (stores More o) (search (ap (λ (x : EndState). x.position.last_sent)
+      s)) (is ∙ sym (ap (λ (x : EndState). step_of e.position.phase x.position.phase (Some from)) s))
 
   -- the last block was stored, and the file was committed
   pub stored_all : StoresNext All → (e' : EndState) (step : Step)
@@ -101,8 +64,7 @@ module _ {K : Type 0} (sinks : SinkMeaning K) (terms : Terms) (number : ℕ) (fr
       → step ≡ step_of e.position.phase (Dallying terms number Fresh) (Some from)
       → IsReported e' step LastSent
   stored_all o e' step s is =
-      report e' LastSent step (stored_turn All) (stores All o)
-      (record { state = s; goes = refl; bytes = ap (λ (x : EndState). x.position.last_sent) s })
+      report e' LastSent step (stored_turn All) (stores All o) (search (ap (λ (x : EndState). x.position.last_sent) s))
       (is ∙ sym (ap (λ (x : EndState). step_of e.position.phase x.position.phase (Some from)) s))
 
   -- the store has refused the block
@@ -110,9 +72,7 @@ module _ {K : Type 0} (sinks : SinkMeaning K) (terms : Terms) (number : ℕ) (fr
       → e' ≡ with_position (in_phase (refused (Some terms) outcomes.StoreFault e.position.phase) e) e
       → step ≡ step_of e.position.phase e'.position.phase (Some from)
       → IsReported e' step (Error DiskFull)
-  stored_not o e' step s is =
-      report e' (Error DiskFull) step (stored_turn Refused) (stores Refused o)
-      (record { state = s; goes = refl; bytes = refl }) is
+  stored_not o e' step s is = search (rules, report, stores)
 
   -- the store has refused the commit
   pub not_committed : (reply : ErrorReply) → StoresNext (Uncommitted reply) → (e' : EndState) (step : Step)
@@ -121,6 +81,4 @@ module _ {K : Type 0} (sinks : SinkMeaning K) (terms : Terms) (number : ℕ) (fr
       (in_phase (refused (Some terms) outcomes.StoreFault e.position.phase) (holding held_after e)) e
       → step ≡ step_of e.position.phase e'.position.phase (Some from)
       → IsReported e' step (Error reply)
-  not_committed reply o e' step s is =
-      report e' (Error reply) step (stored_turn (Uncommitted reply)) (stores (Uncommitted reply) o)
-      (record { state = s; goes = refl; bytes = refl }) is
+  not_committed reply o e' step s is = search (rules, report, stores)

@@ -1,12 +1,9 @@
 -- A piece of netascii, by its first wrong byte and by the host bytes that it stands for. For five functions and the
 -- crate tftp_rules.
-use Rattle.tftp_ends.proofs.Common.{◌≡◌, ◌≢◌, ℕ, Bool, true, false, List, [], ◌∷◌, ◌++◌, Result, Ok, Err, length, ◌<◌}
-use Rattle.tftp_ends.proofs.Common.{◌≤◌, sym, refl, ap, ◌∙◌, ◌==◌, ◌&&◌, not, ne_eqb, true≢false, lt-ltb, le-ltb}
-use Rattle.tftp_ends.proofs.Common.{is_readable, Done}
-use Rattle.std.proofs.Common.{ltb}
-use Rattle.std.proofs.Common.{inl, inr, append_assoc}
+use Rattle.tftp_ends.proofs.Common.{◌≡◌, ◌≢◌, ℕ, Bool, true, false, List, [], ◌∷◌, ◌++◌, Result, length, ◌<◌, ◌≤◌, sym}
+use Rattle.tftp_ends.proofs.Common.{refl, ap, ◌∙◌, ◌&&◌, not, ne_eqb, true≢false, lt-ltb, le-ltb, is_readable, Done}
+use Rattle.std.proofs.Common.{ltb, inl, append_assoc, rules}
 use Rattle.std.specs.Prelude.{◌↔◌}
-use Rattle.std.proofs.lemmas.Bool.{cases_eq}
 use Rattle.std.specs.Result.{IsOk, is_ok}
 use Rattle.tftp_wire.specs.declared.mode.Mode.{Mode}
 use Rattle.tftp_wire.specs.declared.mode.Mode.TheVariants.{Octet, Netascii}
@@ -18,33 +15,11 @@ use Rattle.tftp_ends.specs.Laws.{DecodedBegins, DecodedEnds}
 use Rattle.tftp_ends.specs.Text.{begins_netascii, ends_in_cr}
 use Rattle.tftp_ends.specs.Sound.{HeldBackFits}
 
--- a byte that is encoded as itself
-plain_begins : (b : ℕ) (rest : List ℕ) → (b == 10) ≡ false → (b == 13) ≡ false
-    → begins_netascii (b ∷ rest) ≡ begins_netascii rest
-plain_begins b [] n m = rw n
-plain_begins b (c ∷ rest) n m = rw (m, n)
-
-plain_ends : (b : ℕ) (rest : List ℕ) → (b == 13) ≡ false → ends_in_cr (b ∷ rest) ≡ ends_in_cr rest
-plain_ends b [] m = m
-plain_ends b (c ∷ rest) m = refl
-
-pair_ends : (second : ℕ) (rest : List ℕ) → (second == 13) ≡ false → ends_in_cr (13 ∷ second ∷ rest) ≡ ends_in_cr rest
-pair_ends second [] m = m
-pair_ends second (c ∷ rest) m = refl
-
 -- one host byte before a text
 byte_begins : (b : ℕ) (rest : List ℕ)
     → (begins_netascii (wire_byte b ++ rest) ≡ begins_netascii rest)
     × (ends_in_cr (wire_byte b ++ rest) ≡ ends_in_cr rest)
-byte_begins b rest = elim (cases_eq b 10) [
-  | inl e ↦ rw e (refl, pair_ends 10 rest refl)
-  | inr n ↦
-      let p : (b == 10) ≡ false = ne_eqb b 10 n in
-      elim (cases_eq b 13) [
-        | inl e ↦ rw e (refl, pair_ends 0 rest refl)
-        | inr m ↦ let q : (b == 13) ≡ false = ne_eqb b 13 m in rw (p, q) (plain_begins b rest p q, plain_ends b rest q)
-      ]
-]
+byte_begins b rest = search rules
 
 -- host bytes before a text
 text_begins : (bytes rest : List ℕ)
@@ -59,10 +34,7 @@ text_begins (b ∷ bytes) rest =
     (ap begins_netascii split ∙ (one.0 ∙ more.0), ap ends_in_cr split ∙ (one.1 ∙ more.1))
 
 held_begins : (held : List ℕ) → IsHeldBack held → begins_netascii held ≡ true
-held_begins held h = elim h [
-  | inl e ↦ ap begins_netascii e
-  | inr e ↦ ap begins_netascii e
-]
+held_begins held h = search rules
 
 -- text that decodes begins a wire text
 pub decoded_begins : DecodedBegins
@@ -82,13 +54,7 @@ lone_lf (c ∷ rest) = refl
 
 -- a text that begins with a wrong byte begins no text in netascii
 pub wrong_begins : (text : List ℕ) (fault : NetFault) → IsWrong text fault → begins_netascii text ≡ false
-wrong_begins text LoneCr h =
-    ap begins_netascii h.1.split
-    ∙ ((text_begins h.1.bytes (13 ∷ h.1.byte ∷ h.1.rest)).0 ∙ lone_cr h.1.byte h.1.rest h.1.no_lf h.1.no_nul)
-wrong_begins text LoneLf h =
-    ap begins_netascii h.1.split ∙ ((text_begins h.1.bytes (10 ∷ h.1.rest)).0 ∙ lone_lf h.1.rest)
-wrong_begins text EndsInCr h = absurd h.1
-wrong_begins text Memory h = absurd h.1
+wrong_begins text fault h = search (rules, text_begins, lone_cr, lone_lf)
 
 -- a push of a text that begins a wire text fails only if out of memory
 pub refused_for_memory : (text : List ℕ) (fault : NetFault) → begins_netascii text ≡ true → fault ≢ Memory
@@ -104,8 +70,7 @@ both_true false b e = absurd (true≢false (sym e))
 
 readable_by : (held piece bytes after : List ℕ) (last : Bool) → DecodesPiece held piece bytes after
     → is_readable Netascii held piece last ≡ not (last && ends_in_cr after)
-readable_by held piece bytes after last d =
-    rw (decoded_begins held piece bytes after d, decoded_ends held piece bytes after d)
+readable_by held piece bytes after last d = search (rules, decoded_begins, decoded_ends)
 
 -- a whole block continues the text
 pub readable_more : (held piece bytes after : List ℕ) (size : ℕ) → DecodesPiece held piece bytes after
@@ -116,11 +81,7 @@ readable_more held piece bytes after size d l =
 
 ends_well : (after : List ℕ) (answer : Result Done NetFault) → IsHeldBack after → IsOk answer ↔ (after ≡ [])
     → is_ok answer ≡ not (ends_in_cr after)
-ends_well after (Ok done) h iff = sym (ap (λ (t : List ℕ). not (ends_in_cr t)) (iff.0 refl))
-ends_well after (Err fault) h iff = elim h [
-  | inl e ↦ absurd (true≢false (sym (iff.1 e)))
-  | inr e ↦ sym (ap (λ (t : List ℕ). not (ends_in_cr t)) e)
-]
+ends_well after answer h iff = search rules
 
 -- the last block does if no CR is held back after it
 pub readable_last : (held piece bytes after : List ℕ) (size : ℕ) (answer : Result Done NetFault)
@@ -141,8 +102,7 @@ wrong_unreadable held piece last fault w =
 -- a readable piece begins a wire text
 pub readable_begins : (held piece : List ℕ) (last : Bool) → is_readable Netascii held piece last ≡ true
     → begins_netascii (held ++ piece) ≡ true
-readable_begins held piece last e =
-    (both_true (begins_netascii (held ++ piece)) (not (last && ends_in_cr (held ++ piece))) e).0
+readable_begins held piece last e = search (rules, both_true, not)
 
 -- an end that opens holds nothing back
 pub nothing_held : (mode : Mode) → HeldBackFits mode []

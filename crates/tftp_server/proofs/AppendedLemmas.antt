@@ -1,15 +1,11 @@
 -- A step whose answer is appended, over the step that lends it; and a transfer that no call has changed. For
 -- `Transfer::on_datagram`.
-use Rattle.std.proofs.Common.{◌≡◌, ℕ, Bool, List, [], refl, ◌++◌}
+use Rattle.std.proofs.Common.{◌≡◌, ℕ, Bool, List, [], ◌++◌, rules}
 use Rattle.tftp_file.specs.Source.{SourceMeaning}
-use Rattle.tftp_file.specs.declared.files.Files.{Files}
-use Rattle.tftp_file.specs.declared.files.Files.TheVariants.{Source, Sink}
 use Rattle.tftp_ends.specs.declared.endpoint.Endpoint.{Endpoint}
 use Rattle.tftp_ends.specs.declared.outgoing.Outgoing.{Outgoing}
 use Rattle.tftp_ends.specs.declared.record.Step.{Step}
 use Rattle.tftp_ends.specs.Step.{lent}
-use Rattle.tftp_ends.proofs.Appending.{carries_appended, files_kept}
-use Rattle.tftp_server.specs.Draft.{files_in, drafting_sink, KeepsDraft, KeepsStore}
 use Rattle.tftp_server.specs.State.{TransferState}
 use Rattle.tftp_server.specs.Steps.{TakesBy, TakesIn, StaysAs, lends}
 use Rattle.tftp_store.specs.Store.{StoreMeaning}
@@ -21,37 +17,9 @@ module _ {S F D : Type 0} (meaning : StoreMeaning S D) (sources : SourceMeaning 
       TakesBy meaning sources (lends outgoing) replace from bytes store store' transfer next step →
       after ≡ reserved ++ lent outgoing next.end → reserved ≡ before →
       TakesIn meaning sources replace from bytes store store' transfer next step before after
-  step_appended h n r =
-      record {
-        turn = h.turn;
-        steps = h.steps;
-        carries = carries_appended _ _ _ _ _ _ _ _ h.carries n r;
-        reports = h.reports;
-        stays = h.stays;
-        kind = h.kind;
-        path = h.path;
-        request = h.request;
-      }
+  step_appended h n r = search rules
 
   -- a transfer that no call has changed
   pub stays_unchanged : ((source : F) → sources.gives source [] source) → (store : S) (transfer : TransferState F D) →
       StaysAs meaning sources replace store store transfer transfer
-  stays_unchanged gives store transfer =
-      record {
-        end = refl;
-        path = refl;
-        request = refl;
-        stays = keeps_store transfer.files;
-        draft = keeps_draft transfer.files;
-        files =
-            files_kept sources (drafting_sink meaning) gives (λ k. record { path = refl; replace = refl; files = refl })
-            (files_in store transfer.path replace transfer.files);
-      }
-    where
-      keeps_store : (files : Files F D) → KeepsStore files store store
-      keeps_store (Source source) = refl
-      keeps_store (Sink draft) = tt
-
-      keeps_draft : (files : Files F D) → KeepsDraft files files store store
-      keeps_draft (Source source) = tt
-      keeps_draft (Sink draft) = (refl, refl)
+  stays_unchanged gives store transfer = search rules

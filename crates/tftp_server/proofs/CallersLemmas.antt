@@ -18,17 +18,7 @@ module _ {F D : Type 0} (tid : ℕ) {held : List (ℕ × TransferState F D)} {tr
       (turn : Turn) × makes transfer.end turn × Lends transfer.end turn next.end step.to outgoing
       × (step ≡ reported transfer.end turn) × (next ≡ with_end next.end transfer) →
       StepsLent makes tid held (with_next tid next held) step outgoing
-  lent_step makes outgoing h =
-      record {
-        transfer = transfer;
-        found = sym found;
-        turn = h.0;
-        end = next.end;
-        steps = h.1;
-        lends = h.2;
-        reports = h.3;
-        held = ap (λ (t : TransferState F D). with_next tid t held) h.4;
-      }
+  lent_step makes outgoing h = search (sym found, ap (λ (t : TransferState F D). with_next tid t held) h.4)
 
 -- the server with a new transfer
 pub held_new : {S F D : Type 0} (config : Config) (store : S) (tid : ℕ)

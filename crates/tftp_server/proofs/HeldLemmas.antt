@@ -1,5 +1,5 @@
 -- A transfer that took a step is held as before. For `Server::handle_datagram` and `Server::handle_timeout`.
-use Rattle.std.proofs.Common.{◌≡◌, ℕ, Bool, true, false, List, [], ◌∷◌, Option, Some, IsSome, refl, sym, ap, subst, ◌∙◌}
+use Rattle.std.proofs.Common.{◌≡◌, ℕ, Bool, List, [], ◌∷◌, Some, IsSome, refl, rules}
 use mathlib.Core.Bool.{cond}
 use Rattle.std.specs.Map.{lookup, set_value}
 use Rattle.std.specs.BTreeMap.{is_at}
@@ -11,10 +11,7 @@ set_step : {T : Type 0} (test : ℕ → Bool) (e : ℕ × T) (es : List (ℕ × 
     test e.0 ≡ b → (lookup test es ≡ Some was → lookup test (set_value test es now) ≡ Some now) →
     cond b (Some e.1) (lookup test es) ≡ Some was →
     lookup test (cond b ((e.0, now) ∷ es) (e ∷ set_value test es now)) ≡ Some now
-set_step {T = T} test e es was now true is more found =
-    ap (λ (b : Bool). cond b (Some now) (lookup test es)) is
-set_step {T = T} test e es was now false is more found =
-    ap (λ (b : Bool). cond b (Some e.1) (lookup test (set_value test es now))) is ∙ more found
+set_step test e es was now b is more found = search rules
 
 set_there : {T : Type 0} (test : ℕ → Bool) (es : List (ℕ × T)) (was now : T) →
     lookup test es ≡ Some was → lookup test (set_value test es now) ≡ Some now
@@ -28,5 +25,4 @@ next_there tid held was now h = set_there (is_at (nat_cmp tid)) held was now h
 -- and so there is one
 pub still_held : {T : Type 0} (tid : ℕ) (held : List (ℕ × T)) (was now : T) →
     Some was ≡ at tid held → IsSome (at tid (with_next tid now held))
-still_held {T = T} tid held was now found =
-    subst (λ (o : Option T). IsSome o) (sym (next_there tid held was now (sym found))) refl
+still_held {T = T} tid held was now found = search (rules, next_there)

@@ -1,6 +1,6 @@
 -- What repeats a request, by the keys of an index and by the transfers under them. For
 -- `Table+Transfer+F+D::is_repeated`.
-use Rattle.std.proofs.Common.{ℕ, List, [], ◌∷◌, map, Option, Some, None, IsSome, inl, inr}
+use Rattle.std.proofs.Common.{ℕ, List, [], ◌∷◌, map, Option, IsSome, rules}
 use Rattle.std.specs.Prelude.{◌⊎◌}
 use Rattle.slab.specs.Slab.{Slab, get}
 use Rattle.tftp_wire.specs.declared.packet.Packet.{Packet}
@@ -13,15 +13,13 @@ module _ {F D : Type 0} (from : Endpoint) (packet : Packet) where
       IsSome o →
       KeyRepeats from packet o ⊎ rest → (rest → AnyRepeats from packet others) →
       AnyRepeats from packet (with_found tid o others)
-  found tid None others rest here k more = absurd (cc)
-  found tid (Some held) others rest here k more = elim k [ inl r ↦ inl r | inr r ↦ inr (more r) ]
+  found tid o others rest here k more = search rules
 
   keyed : (tid : ℕ) (o : Option (TransferState F D)) (others : List (ℕ × TransferState F D)) (rest : Type 0) →
       IsSome o →
       AnyRepeats from packet (with_found tid o others) → (AnyRepeats from packet others → rest) →
       KeyRepeats from packet o ⊎ rest
-  keyed tid None others rest here k more = absurd (cc)
-  keyed tid (Some held) others rest here k more = elim k [ inl r ↦ inl r | inr r ↦ inr (more r) ]
+  keyed tid o others rest here k more = search rules
 
   -- a transfer under a key of the index is one of the table
   pub repeats_joined : (index : List (ℕ × ℕ)) (slots : Slab (TransferState F D)) → IsJoined index slots →

@@ -1,24 +1,19 @@
 -- The end of a transfer lacks memory over a draft of the store, which is then unchanged. For
 -- `Transfer::handle_datagram` and `Transfer::on_datagram`.
-use Rattle.std.proofs.Common.{◌≡◌, ℕ, Bool, List, [], ◌∷◌, Result, Ok, Err, OnErr, inl, inr, refl, sym, ap, ◌∙◌}
+use Rattle.std.proofs.Common.{◌≡◌, ℕ, Bool, List, Result, Ok, Err, OnErr, refl, sym, ap, ◌∙◌, rules}
 use Rattle.std.specs.Prelude.{IsErrOf}
-use Rattle.tftp_wire.specs.declared.mode.Mode.{Mode}
-use Rattle.tftp_wire.specs.declared.mode.Mode.TheVariants.{Octet, Netascii}
 use Rattle.tftp_file.specs.Source.{SourceMeaning}
 use Rattle.tftp_file.specs.Sink.{SinkMeaning, sink_through}
 use Rattle.tftp_file.specs.declared.fault.StoreFault.TheVariants.{Memory}
 use Rattle.tftp_file.specs.declared.files.Files.TheVariants.{Sink}
 use Rattle.tftp_ends.specs.declared.action.Action.{Action}
-use Rattle.tftp_ends.specs.declared.action.Action.TheVariants.{Respond, Send, Store}
 use Rattle.tftp_ends.specs.declared.endpoint.Endpoint.{Endpoint}
 use Rattle.tftp_ends.specs.declared.fault.EndFault.{EndFault}
 use Rattle.tftp_ends.specs.declared.fault.EndFault.TheVariants as ends
-use Rattle.tftp_ends.specs.Action.{datagram_action}
 use Rattle.tftp_ends.specs.End.{EndState}
 use Rattle.tftp_ends.specs.Files.{KeepsSink}
 use Rattle.tftp_ends.specs.OneFile.{ReceiverActLacksMemory, ReceiverLacksMemory, receiver_lacks}
-use Rattle.tftp_ends.specs.Shortage.{AppendLacksMemory, StoreLacksMemory, LacksMemory}
-use Rattle.tftp_ends.specs.Step.{Appended}
+use Rattle.tftp_ends.specs.Shortage.{LacksMemory}
 use Rattle.tftp_server.specs.declared.draft_sink.DraftSink.{DraftSink}
 use Rattle.tftp_server.specs.Draft.{Drafting, drafting_sink}
 use Rattle.tftp_server.specs.Steps.{StaysAs}
@@ -27,47 +22,15 @@ use Rattle.tftp_server.proofs.StepsLemmas.{drafting_of}
 
 -- ---- a receiver over a sink that stands for another
 module _ {K L : Type 0} (sinks : SinkMeaning L) (g : K → L) where
-  appended_as : (bytes : List ℕ) (k k' : K) → Appended (sink_through sinks g) bytes k k' (Err Memory) →
-      Appended sinks bytes (g k) (g k') (Err Memory)
-  appended_as [] k k' h = (h.0, ap g h.1)
-  appended_as (b ∷ bytes) k k' h = h
-
-  append_as : (mode : Mode) (text piece : List ℕ) (k k' : K) →
-      AppendLacksMemory (sink_through sinks g) mode text piece k k' →
-      AppendLacksMemory sinks mode text piece (g k) (g k')
-  append_as mode text piece k k' h =
-      record {
-        bytes = h.bytes;
-        text_after = h.text_after;
-        decoded = h.decoded;
-        appended = appended_as h.bytes k k' h.appended;
-      }
-
-  store_as : (mode : Mode) (text piece : List ℕ) (k k' : K) →
-      StoreLacksMemory (sink_through sinks g) mode text piece k k' → StoreLacksMemory sinks mode text piece (g k) (g k')
-  store_as Octet text piece k k' h = append_as Octet text piece k k' h
-  store_as Netascii text piece k k' (inl h) = inl (ap g h)
-  store_as Netascii text piece k k' (inr h) = inr (append_as Netascii text piece k k' h)
-
   act_as : (action : Action) (bytes : List ℕ) (e : EndState) (k k' : K) →
       ReceiverActLacksMemory (sink_through sinks g) action bytes e k k' →
       ReceiverActLacksMemory sinks action bytes e (g k) (g k')
-  act_as (Respond response) bytes e k k' h = h
-  act_as (Send terms number) bytes e k k' h = h
-  act_as (Store terms number) bytes e k k' h = store_as e.role.mode e.position.held_back _ k k' h
+  act_as action bytes e k k' h = search rules
 
   lacks_as : (too_full : ℕ → Type 0) (from : Endpoint) (bytes : List ℕ) (e : EndState) (k k' : K) →
       ReceiverLacksMemory (sink_through sinks g) too_full from bytes e k k' →
       ReceiverLacksMemory sinks too_full from bytes e (g k) (g k')
-  lacks_as too_full from bytes e k k' h =
-      record {
-        decoded = h.decoded;
-        says = h.says;
-        lacks = elim h.lacks [
-          | inl full ↦ inl (full.0, ap g full.1)
-          | inr act ↦ inr (act_as (datagram_action e from bytes h.decoded) bytes e k k' act)
-        ];
-      }
+  lacks_as too_full from bytes e k k' h = search (rules, act_as)
 
 -- ---- over a draft
 -- the drafts of a store, as sinks
@@ -76,30 +39,13 @@ draft_sinks meaning = sink_through (drafting_sink meaning) drafting_of
 
 -- out of memory the store and the draft are unchanged
 module _ {S D : Type 0} (meaning : StoreMeaning S D) where
-  append_stays : (bytes : List ℕ) (d d' : Drafting S D) → Appended (drafting_sink meaning) bytes d d' (Err Memory) →
-      d' ≡ d
-  append_stays [] d d' h = h.1
-  append_stays (b ∷ bytes) d d' h = h.3.1 refl
-
-  store_stays : (mode : Mode) (text piece : List ℕ) (d d' : Drafting S D) →
-      StoreLacksMemory (drafting_sink meaning) mode text piece d d' → d' ≡ d
-  store_stays Octet text piece d d' h = append_stays h.bytes d d' h.appended
-  store_stays Netascii text piece d d' (inl h) = h
-  store_stays Netascii text piece d d' (inr h) = append_stays h.bytes d d' h.appended
-
   act_stays : (action : Action) (bytes : List ℕ) (e : EndState) (d d' : Drafting S D) →
       ReceiverActLacksMemory (drafting_sink meaning) action bytes e d d' → d' ≡ d
-  act_stays (Respond response) bytes e d d' h = absurd h
-  act_stays (Send terms number) bytes e d d' h = absurd h
-  act_stays (Store terms number) bytes e d d' h = store_stays e.role.mode e.position.held_back _ d d' h
+  act_stays action bytes e d d' h = search rules
 
   lacks_stays : (too_full : ℕ → Type 0) (from : Endpoint) (bytes : List ℕ) (e : EndState) (d d' : Drafting S D) →
       ReceiverLacksMemory (drafting_sink meaning) too_full from bytes e d d' → d' ≡ d
-  lacks_stays too_full from bytes e d d' h =
-      elim h.lacks [
-        | inl full ↦ full.1
-        | inr act ↦ act_stays (datagram_action e from bytes h.decoded) bytes e d d' act
-      ]
+  lacks_stays too_full from bytes e d d' h = search (rules, act_stays)
 
 module _ {S F D : Type 0} (meaning : StoreMeaning S D) (sources : SourceMeaning F) (too_full : ℕ → Type 0)
     {from : Endpoint} {bytes : List ℕ} {e : EndState} (k k' : DraftSink S F D) {replace : Bool} {store store' : S}
@@ -139,12 +85,4 @@ module _ {S F D : Type 0} (meaning : StoreMeaning S D) (sources : SourceMeaning 
       let first : Drafting S D = record { store = store; draft = draft; path = path; replace = replace } in
       let last : Drafting S D = record { store = store'; draft = draft'; path = path; replace = replace } in
       let back : last ≡ first = sym now ∙ (fault_stays {R = R} fault unmoved why ∙ was) in
-      then h
-      (record {
-        end = (keeps h).0;
-        path = refl;
-        request = refl;
-        stays = tt;
-        draft = (ap (λ (d : Drafting S D). d.store) back, ap (λ (d : Drafting S D). Sink d.draft) back);
-        files = rw (← was, ← now) (record { holding = (keeps h).1.holding; leaves = (keeps h).1.leaves });
-      })
+      search rules

@@ -1,9 +1,8 @@
 -- How a transfer handles a datagram with its file, and why an event was not handled. For eight functions and
 -- ShortageLemmas.
-use Rattle.std.proofs.Common.{◌≡◌, ◌↔◌, ℕ, Bool, true, false, List, Option, Some, Result, Ok, Err, refl, sym, ap, subst}
-use Rattle.std.proofs.Common.{◌∙◌}
-use Rattle.std.specs.Prelude.{not, IfOk, IsErrOf}
-use Rattle.std.proofs.lemmas.Bool.{false_from_ne_true}
+use Rattle.std.proofs.Common.{◌≡◌, ◌↔◌, ℕ, Bool, true, false, List, Option, Some, Result, Ok, Err, refl, sym, ap, ◌∙◌}
+use Rattle.std.proofs.Common.{rules}
+use Rattle.std.specs.Prelude.{IfOk, IsErrOf}
 use Rattle.std.proofs.lemmas.Map.Steps.{set_value_same}
 use Rattle.std.proofs.lemmas.Result.{err_from_is_err_and}
 use Rattle.std.specs.Result.{IsErrAnd}
@@ -71,17 +70,7 @@ module _ {S F D : Type 0} (meaning : StoreMeaning S D) (sources : SourceMeaning 
       TakesBy meaning sources gives replace from bytes store store
       (record { end = e; files = Source s; path = path; request = request })
       (record { end = e'; files = Source s'; path = path; request = request }) step
-  source_taken {s = s} {s' = s'} h =
-      record {
-        turn = h.0;
-        steps = sender_step sources (drafting_sink meaning) from bytes e s h.0 s' h.1;
-        carries = h.2;
-        reports = h.3;
-        stays = refl;
-        kind = tt;
-        path = refl;
-        request = refl;
-      }
+  source_taken {s = s} {s' = s'} h = search (sender_step sources (drafting_sink meaning) from bytes e s h.0 s' h.1)
 
   -- and over a draft of the store
   pub draft_taken : (k k' : DraftSink S F D) {store' : S} {draft draft' : D} →
@@ -110,17 +99,14 @@ pub handled_alike : {F D : Type 0} (kind : Action → Type 0) (from : Endpoint) 
     {held same : TransferState F D} → held ≡ same →
     (decoded : Option Packet) × Decodes bytes decoded × kind (datagram_action held.end from bytes decoded) →
     (decoded : Option Packet) × Decodes bytes decoded × kind (datagram_action same.end from bytes decoded)
-handled_alike {F = F} {D = D} kind from bytes is h =
-    subst (λ (t : TransferState F D). (decoded : Option Packet) × Decodes bytes decoded
-    × kind (datagram_action t.end from bytes decoded)) is h
+handled_alike {F = F} {D = D} kind from bytes is h = search rules
 
 -- and its answer fits the same capacity
 pub room_alike : {F D R : Type 0} (from : Endpoint) (bytes : List ℕ) {held same : TransferState F D} → held ≡ same →
     (result : Result R EndFault) (datagram : R → List ℕ) →
     IfOk result (λ r. HandledBy (FitsRoom held.end (datagram r)) from bytes held.end) →
     IfOk result (λ r. HandledBy (FitsRoom same.end (datagram r)) from bytes same.end)
-room_alike {F = F} {D = D} from bytes is result datagram h =
-    subst (λ (t : TransferState F D). IfOk result (λ r. HandledBy (FitsRoom t.end (datagram r)) from bytes t.end)) is h
+room_alike {F = F} {D = D} from bytes is result datagram h = search rules
 
 -- what the exit of a `?` returns
 pub returned : {T E : Type 0} (r : Result T E) (fault : E) → IsErrAnd r (λ e. e ≡ fault) → r ≡ Err fault
@@ -139,35 +125,24 @@ when_memory ends.Closed then e = absurd (cc)
 when_memory ends.Memory then e = then refl
 
 module _ {F D R : Type 0} (held : TransferState F D) where
-  -- an end that is out of memory is open
-  still_open : (IsErrOf {T = R} (Err ends.Memory) ends.Closed ↔ (is_closed held ≡ true)) → is_closed held ≡ false
-  still_open closed =
-      false_from_ne_true (is_closed held)
-      (λ h. let e : IsErrOf {T = R} (Err ends.Memory) ends.Closed = closed.1 h in cc)
-
   -- and so is one that handled an event
   pub handled_open : (answer : R) → (IsErrOf {T = R} (Ok answer) ends.Closed ↔ (is_closed held ≡ true)) →
       is_closed held ≡ false
-  handled_open answer closed =
-      false_from_ne_true (is_closed held)
-      (λ h. let e : IsErrOf {T = R} (Ok answer) ends.Closed = closed.1 h in cc)
+  handled_open answer closed = search rules
 
   -- why a timeout was not handled
   pub timeout_fault : (fault : EndFault) → (IsErrOf {T = R} (Err fault) ends.Closed ↔ (is_closed held ≡ true)) →
       (IsErrOf {T = R} (Err fault) ends.Memory →
       IsAnswered (timeout_action held.end.position.retries_left held.end.position.phase)) →
       TimeoutFault (Some held) (of_end fault)
-  timeout_fault ends.Closed closed memory = ap not (closed.0 refl)
-  timeout_fault ends.Memory closed memory = (still_open closed, memory refl)
+  timeout_fault fault closed memory = search rules
 
   -- why a datagram was not handled
   pub datagram_fault : (kind : Action → Type 0) (from : Endpoint) (bytes : List ℕ) (fault : EndFault) →
       (IsErrOf {T = R} (Err fault) ends.Closed ↔ (is_closed held ≡ true)) →
       (IsErrOf {T = R} (Err fault) ends.Memory → (decoded : Option Packet) × Decodes bytes decoded
       × kind (datagram_action held.end from bytes decoded)) → DatagramFaultBy kind from bytes (Some held) (of_end fault)
-  datagram_fault kind from bytes ends.Closed closed memory = ap not (closed.0 refl)
-  datagram_fault kind from bytes ends.Memory closed memory =
-      let said = memory refl in (still_open closed, said.0, said.1, said.2)
+  datagram_fault kind from bytes fault closed memory = search rules
 
 -- ---- what is written back to the transfers
 module _ {F D : Type 0} (tid : ℕ) {held : List (ℕ × TransferState F D)} {transfer next : TransferState F D}
@@ -177,16 +152,7 @@ module _ {F D : Type 0} (tid : ℕ) {held : List (ℕ × TransferState F D)} {tr
       gives transfer.end (timeout_turn transfer.end) next.end step.to
       × (step ≡ reported transfer.end (timeout_turn transfer.end)) × (next ≡ with_end next.end transfer) →
       TimesOutBy gives tid held (with_next tid next held) step
-  times_out gives still h =
-      record {
-        transfer = transfer;
-        found = sym found;
-        still = still;
-        end = next.end;
-        carries = h.0;
-        reports = h.1;
-        held = ap (λ (t : TransferState F D). with_next tid t held) h.2;
-      }
+  times_out gives still h = search (sym found, ap (λ (t : TransferState F D). with_next tid t held) h.2)
 
   -- writing an unchanged transfer back changes nothing of the server
   pub nothing_changed : {S : Type 0} {config : Config} {store store' : S} →

@@ -1,7 +1,7 @@
 -- The joined list of an index and a slab under look-ups, insertions, removals and writes. For ten functions.
+use Rattle.std.proofs.lemmas.Grind.{common_steps}
 use Rattle.std.proofs.Common.{arith, ◌≡◌, ◌≢◌, ℕ, suc, Bool, true, false, List, [], ◌∷◌, length, get_or, Option, Some}
-use Rattle.std.proofs.Common.{None, IsSome, is_some, cond, Result, Ok, Err, OnErr, refl, sym, ap, subst, ◌∙◌, inl, inr}
-use Rattle.std.proofs.lemmas.Bool.{cases_eq}
+use Rattle.std.proofs.Common.{None, IsSome, is_some, cond, Result, Ok, Err, OnErr, refl, sym, ap, subst, ◌∙◌, rules}
 use Rattle.std.proofs.lemmas.Bool.Decides.{nat_tests}
 use Rattle.std.specs.List.{AllByRecursion}
 use Rattle.std.specs.Map.{lookup, keys_of, remove_entry, set_value}
@@ -21,9 +21,7 @@ IsFree key index = AllByRecursion (λ f. f.1 ≢ key) index
 free-inserted : (o : Ordering) (key k : ℕ) (tid : ℕ) (e : ℕ × ℕ) (index more : List (ℕ × ℕ)) → k ≢ key →
     IsFree key (e ∷ index) → IsFree key more →
     IsFree key (match_ordering o ((tid, k) ∷ e ∷ index) ((e.0, k) ∷ index) (e ∷ more))
-free-inserted Less key k tid e index more differs free rest = (differs, free)
-free-inserted Equal key k tid e index more differs free rest = (differs, free.1)
-free-inserted Greater key k tid e index more differs free rest = (free.0, rest)
+free-inserted o key k tid e index more differs free rest = search rules
 
 IsFree-insert : (index : List (ℕ × ℕ)) (tid key k : ℕ) → k ≢ key → IsFree key index →
     IsFree key (insert_entry nat_cmp index tid k)
@@ -33,8 +31,7 @@ IsFree-insert (e ∷ index) tid key k differs free =
 
 differs_there : (b : Bool) (k key other : ℕ) (m : Option ℕ) → k ≢ other → (m ≡ Some key → key ≢ other) →
     cond b (Some k) m ≡ Some key → key ≢ other
-differs_there true k key other m here more found = λ same. here (let e : k ≡ key = cc in e ∙ same)
-differs_there false k key other m here more found = more found
+differs_there b k key other m here more found = search rules
 
 -- what a look-up finds is not a free key
 found_differs : (test : ℕ → Bool) (index : List (ℕ × ℕ)) (key other : ℕ) → IsFree other index →
@@ -58,9 +55,7 @@ IsFree-remove test (e ∷ index) key free =
 removed_at : (b : Bool) (key : ℕ) (e : ℕ × ℕ) (index more : List (ℕ × ℕ)) (m : Option ℕ) → IsFree e.1 index →
     (m ≡ Some key → IsFree key more) → (m ≡ Some key → e.1 ≢ key) → cond b (Some e.1) m ≡ Some key →
     IsFree key (cond b index (e ∷ more))
-removed_at true key e index more m free rest differs found =
-    let same : e.1 ≡ key = cc in subst (λ (x : ℕ). IsFree x index) same free
-removed_at false key e index more m free rest differs found = (differs found, rest found)
+removed_at b key e index more m free rest differs found = search rules
 
 -- what holds holds beside an error
 pub on_err : {A E : Type 0} {P : Type 0} (r : Result A E) → P → OnErr r P
@@ -76,19 +71,14 @@ removes_new : (o : Ordering) (tid key : ℕ) (e : ℕ × ℕ) (es more : List (�
     (lookup (is_at (nat_cmp tid)) es ≡ None → remove_entry (is_at (nat_cmp tid)) more ≡ es) →
     remove_entry (is_at (nat_cmp tid)) (match_ordering o ((tid, key) ∷ e ∷ es) ((e.0, key) ∷ es) (e ∷ more)) ≡ e ∷ es
 removes_new Less tid key e es more o absent rest = rw same_key refl
-removes_new Equal tid key e es more o absent rest =
-    let found : lookup (is_at (nat_cmp tid)) (e ∷ es) ≡ Some e.1 = rw o refl in absurd (cc)
-removes_new Greater tid key e es more o absent rest =
-    let there : lookup (is_at (nat_cmp tid)) es ≡ None = rw o at absent in
-    rw (o, rest there) refl
+removes_new Equal tid key e es more o absent rest = absurd (cc)
+removes_new Greater tid key e es more o absent rest = search rules
 
 -- to remove what was inserted leaves what was there
 pub removes_inserted : (index : List (ℕ × ℕ)) (tid key : ℕ) → lookup (is_at (nat_cmp tid)) index ≡ None →
     remove_entry (is_at (nat_cmp tid)) (insert_entry nat_cmp index tid key) ≡ index
 removes_inserted [] tid key absent = rw same_key refl
-removes_inserted (e ∷ es) tid key absent =
-    removes_new (nat_cmp tid e.0) tid key e es (insert_entry nat_cmp es tid key) refl absent
-    (removes_inserted es tid key)
+removes_inserted (e ∷ es) tid key absent = removes_new _ _ key e _ _ refl absent (removes_inserted es tid key)
 
 module _ {T : Type 0} where
   with_found-lookup : (test : ℕ → Bool) (tid : ℕ) (o : Option T) (others : List (ℕ × T)) → IsSome o →
@@ -140,8 +130,7 @@ module _ {T : Type 0} where
   -- a look-up of an identifier finds what the slab has under its key
   found_there : (b : Bool) (k key : ℕ) (m : Option ℕ) (l : Option T) (slots : Slab T) →
       (m ≡ Some key → l ≡ get slots key) → cond b (Some k) m ≡ Some key → cond b (get slots k) l ≡ get slots key
-  found_there true k key m l slots more found = ap (get slots) (cc)
-  found_there false k key m l slots more found = more found
+  found_there b k key m l slots more found = search rules
 
   -- a key that is found in the index has its transfer
   pub joined-lookup : (test : ℕ → Bool) (index : List (ℕ × ℕ)) (slots : Slab T) (key : ℕ) → IsJoined index slots →
@@ -183,9 +172,7 @@ module _ {T : Type 0} where
 
   present_there : (b : Bool) (k key : ℕ) (m : Option ℕ) (slots : Slab T) → IsSome (get slots k) →
       (m ≡ Some key → IsSome (get slots key)) → cond b (Some k) m ≡ Some key → IsSome (get slots key)
-  present_there true k key m slots here more found =
-      let same : k ≡ key = cc in subst (λ (x : ℕ). IsSome (get slots x)) same here
-  present_there false k key m slots here more found = more found
+  present_there b k key m slots here more found = search rules
 
   -- a key in the index has a value
   pub joined-present : (test : ℕ → Bool) (index : List (ℕ × ℕ)) (slots : Slab T) (key : ℕ) → IsJoined index slots →
@@ -198,12 +185,8 @@ module _ {T : Type 0} where
   pub vacant_is_free : (index : List (ℕ × ℕ)) (slots : Slab T) (key : ℕ) → IsJoined index slots → get slots key ≡ None →
       IsFree key index
   vacant_is_free [] slots key h vacant = tt
-  vacant_is_free (e ∷ index) slots key h vacant = (
-    λ same. let here : IsSome (get slots key) = subst (λ (x : ℕ). IsSome (get slots x)) same
-        h.0 in let none : is_some (get slots key) ≡ false = ap is_some vacant in cc,
-    vacant_is_free index slots key
-        h.2 vacant,
-  )
+  vacant_is_free (e ∷ index) slots key h vacant =
+      search (rules, vacant_is_free index slots key h.2 vacant)
 
   -- a change under a free key changes nothing
   pub joined-apart : (index : List (ℕ × ℕ)) (old new : Slab T) (key : ℕ) (slot : Option T) → Updates old new key slot →
@@ -224,9 +207,7 @@ module _ {T : Type 0} where
   joins-inserted : (o : Ordering) (tid key : ℕ) (e : ℕ × ℕ) (index more : List (ℕ × ℕ)) (new : Slab T) →
       IsSome (get new key) → IsFree key (e ∷ index) → IsJoined (e ∷ index) new → IsFree e.1 more → IsJoined more new →
       IsJoined (match_ordering o ((tid, key) ∷ e ∷ index) ((e.0, key) ∷ index) (e ∷ more)) new
-  joins-inserted Less tid key e index more new here free h apart rest = (here, free, h)
-  joins-inserted Equal tid key e index more new here free h apart rest = (here, free.1, h.2)
-  joins-inserted Greater tid key e index more new here free h apart rest = (h.0, apart, rest)
+  joins-inserted o tid key e index more new here free h apart rest = search rules
 
   IsJoined-inserted : (index : List (ℕ × ℕ)) (new : Slab T) (tid key : ℕ) → IsSome (get new key) → IsFree key index →
       IsJoined index new → IsJoined (insert_entry nat_cmp index tid key) new
@@ -240,27 +221,20 @@ module _ {T : Type 0} where
   pub IsJoined-insert : (index : List (ℕ × ℕ)) (old new : Slab T) (tid key : ℕ) (v : T) → IsJoined index old →
       get old key ≡ None → Updates old new key (Some v) → IsJoined (insert_entry nat_cmp index tid key) new
   IsJoined-insert index old new tid key v h vacant updates =
-      let free = vacant_is_free index old key h vacant in
-      IsJoined-inserted index new tid key (ap is_some updates.changed) free
-      (IsJoined-apart index old new key (Some v) updates free h)
+      search (rules, vacant_is_free, IsJoined-inserted, IsJoined-apart)
 
   match-joined : (o : Ordering) (tid key : ℕ) (v : T) (e : ℕ × ℕ) (index more : List (ℕ × ℕ)) (new : Slab T) →
       get new key ≡ Some v → joined (match_ordering o ((tid, key) ∷ e ∷ index) ((e.0, key) ∷ index) (e ∷ more)) new
       ≡ match_ordering o ((tid, v) ∷ joined (e ∷ index) new) ((e.0, v) ∷ joined index new)
       (with_found e.0 (get new e.1) (joined more new))
-  match-joined Less tid key v e index more new here = ap (λ o. with_found tid o (joined (e ∷ index) new)) here
-  match-joined Equal tid key v e index more new here = ap (λ o. with_found e.0 o (joined index new)) here
-  match-joined Greater tid key v e index more new here = refl
+  match-joined o tid key v e index more new here = search rules
 
   joined-inserted : (index : List (ℕ × ℕ)) (new : Slab T) (tid key : ℕ) (v : T) → get new key ≡ Some v →
       IsJoined index new → joined (insert_entry nat_cmp index tid key) new ≡ insert_entry nat_cmp (joined index new) tid
       v
   joined-inserted [] new tid key v here h = ap (λ o. with_found tid o []) here
   joined-inserted (e ∷ index) new tid key v here h =
-      match-joined (nat_cmp tid e.0) tid key v e index _ new here
-      ∙ ap (λ xs. match_ordering (nat_cmp tid e.0) ((tid, v) ∷ joined (e ∷ index) new) ((e.0, v) ∷ joined index new)
-      (with_found e.0 (get new e.1) xs)) (joined-inserted index new tid key v here h.2)
-      ∙ sym (with_found-insert tid e.0 (get new e.1) (joined index new) v h.0)
+      search (rules, match-joined, with_found-insert, joined-inserted index new tid key v here h.2)
 
   -- and inserts into the list
   pub joined-insert : (index : List (ℕ × ℕ)) (old new : Slab T) (tid key : ℕ) (v : T) → IsJoined index old →
@@ -281,8 +255,7 @@ module _ {T : Type 0} where
 
   joins-removed : (b : Bool) (e : ℕ × ℕ) (index more : List (ℕ × ℕ)) (slots : Slab T) → IsJoined (e ∷ index) slots →
       IsFree e.1 more → IsJoined more slots → IsJoined (cond b index (e ∷ more)) slots
-  joins-removed true e index more slots h free rest = h.2
-  joins-removed false e index more slots h free rest = (h.0, free, rest)
+  joins-removed b e index more slots h free rest = search rules
 
   IsJoined-removed : (test : ℕ → Bool) (index : List (ℕ × ℕ)) (slots : Slab T) → IsJoined index slots →
       IsJoined (remove_entry test index) slots
@@ -295,8 +268,7 @@ module _ {T : Type 0} where
   pub IsJoined-remove : (test : ℕ → Bool) (index : List (ℕ × ℕ)) (old new : Slab T) (key : ℕ) → IsJoined index old →
       lookup test index ≡ Some key → Updates old new key None → IsJoined (remove_entry test index) new
   IsJoined-remove test index old new key h found updates =
-      IsJoined-apart (remove_entry test index) old new key None updates (removed_is_free test index old key h found)
-      (IsJoined-removed test index old h)
+      search (rules, IsJoined-apart, removed_is_free, IsJoined-removed)
 
   cond-joined : (b : Bool) (e : ℕ × ℕ) (index more : List (ℕ × ℕ)) (slots : Slab T) →
       joined (cond b index (e ∷ more)) slots ≡ cond b (joined index slots)
@@ -308,18 +280,14 @@ module _ {T : Type 0} where
       joined (remove_entry test index) slots ≡ remove_entry test (joined index slots)
   joined-removed test [] slots h = refl
   joined-removed test (e ∷ index) slots h =
-      cond-joined (test e.0) e index _ slots
-      ∙ ap (λ xs. cond (test e.0) (joined index slots) (with_found e.0 (get slots e.1) xs))
-      (joined-removed test index slots h.2)
-      ∙ sym (with_found-remove test e.0 (get slots e.1) (joined index slots) h.0)
+      search (rules, cond-joined, with_found-remove, joined-removed test index slots h.2)
 
   -- and removes from the list
   pub joined-remove : (test : ℕ → Bool) (index : List (ℕ × ℕ)) (old new : Slab T) (key : ℕ) → IsJoined index old →
       lookup test index ≡ Some key → Updates old new key None →
       joined (remove_entry test index) new ≡ remove_entry test (joined index old)
   joined-remove test index old new key h found updates =
-      joined-apart (remove_entry test index) old new key None updates (removed_is_free test index old key h found)
-      ∙ joined-removed test index old h
+      joined-apart _ _ _ _ _ updates (removed_is_free _ _ _ _ h found) ∙ joined-removed test _ _ h
 
   -- ---- a write
   cond-apart : (b : Bool) (tid key : ℕ) (e : ℕ × ℕ) (w : T) (index : List (ℕ × ℕ)) (old new : Slab T) (m : Option ℕ)
@@ -327,15 +295,8 @@ module _ {T : Type 0} where
       (m ≡ Some key → joined index new ≡ rest) → cond b (Some e.1) m ≡ Some key →
       with_found e.0 (get new e.1) (joined index new) ≡ cond b ((e.0, w) ∷ joined index old)
       (with_found e.0 (get old e.1) rest)
-  cond-apart true tid key e w index old new m rest updates free differs more found =
-      let same : e.1 ≡ key = cc in
-      let here : get new e.1 ≡ Some w = ap (get new) same ∙ updates.changed in
-      ap (λ o. with_found e.0 o (joined index new)) here
-      ∙ ap (λ xs. (e.0, w) ∷ xs) (joined-apart index old new key (Some w) updates
-      (subst (λ (x : ℕ). IsFree x index) same free))
-  cond-apart false tid key e w index old new m rest updates free differs more found =
-      ap (λ o. with_found e.0 o (joined index new)) (updates.others e.1 (λ same. differs found (sym same)))
-      ∙ ap (λ xs. with_found e.0 (get old e.1) xs) (more found)
+  cond-apart b tid key e w index old new m rest updates free differs more found =
+      search (rules, joined-apart)
 
   -- a write under a key writes that entry
   pub joined-write : (test : ℕ → Bool) (index : List (ℕ × ℕ)) (old new : Slab T) (key : ℕ) (w : T) →
@@ -348,30 +309,12 @@ module _ {T : Type 0} where
       (found_differs test index key e.1 h.1) (λ m. joined-write test index old new key w h.2 m updates) found
       ∙ sym (with_found-set test e.0 (get old e.1) (joined index old) w h.0)
 
-  -- a key that had a value still has one
-  kept_there : (old new : Slab T) (key k : ℕ) (w : T) → Updates old new key (Some w) → IsSome (get old k) →
-      IsSome (get new k)
-  kept_there old new key k w updates here =
-      elim (cases_eq k key) [
-        | inl same ↦ ap is_some (ap (get new) same ∙ updates.changed)
-        | inr differs ↦ ap is_some (updates.others k differs) ∙ here
-      ]
-
-  -- a write keeps them joined
-  pub IsJoined-write : (index : List (ℕ × ℕ)) (old new : Slab T) (key : ℕ) (w : T) → IsJoined index old →
-      Updates old new key (Some w) → IsJoined index new
-  IsJoined-write [] old new key w h updates = tt
-  IsJoined-write (e ∷ index) old new key w h updates =
-      (kept_there old new key e.1 w updates h.0, h.1, IsJoined-write index old new key w h.2 updates)
-
   -- ---- slots with equal values
   -- the same slots give the same list
   pub joined-same : (index : List (ℕ × ℕ)) (old new : Slab T) → new.slots ≡ old.slots →
       joined index new ≡ joined index old
   joined-same [] old new same = refl
-  joined-same (e ∷ index) old new same =
-      ap (λ s. with_found e.0 (get_or s e.1 None) (joined index new)) same
-      ∙ ap (λ xs. with_found e.0 (get old e.1) xs) (joined-same index old new same)
+  joined-same (e ∷ index) old new same = search (rules, joined-same index old new same)
 
   -- the same slots stay joined
   pub IsJoined-same : (index : List (ℕ × ℕ)) (old new : Slab T) → new.slots ≡ old.slots → IsJoined index old →
@@ -389,8 +332,7 @@ module _ {T : Type 0} where
   -- the same index and slots stay joined
   pub IsJoined-kept : (index after : List (ℕ × ℕ)) (old new : Slab T) → after ≡ index → new.slots ≡ old.slots →
       IsJoined index old → IsJoined after new
-  IsJoined-kept index after old new same slots h =
-      subst (λ (es : List (ℕ × ℕ)). IsJoined es new) (sym same) (IsJoined-same index old new slots h)
+  IsJoined-kept index after old new same slots h = search (rules, IsJoined-same)
 
   -- the same index and slots are the same list
   pub joined-kept : (index after : List (ℕ × ℕ)) (old new : Slab T) → after ≡ index → new.slots ≡ old.slots →
@@ -402,17 +344,14 @@ module _ {T : Type 0} where
       after ≡ insert_entry nat_cmp index tid key → mid.slots ≡ old.slots → IsJoined index old → get mid key ≡ None →
       Updates mid new key (Some v) → IsJoined after new
   IsJoined-after_insert index after old mid new tid key v same slots h vacant updates =
-      subst (λ (es : List (ℕ × ℕ)). IsJoined es new) (sym same)
-      (IsJoined-insert index mid new tid key v (IsJoined-same index old mid slots h) vacant updates)
+      search (rules, IsJoined-insert, IsJoined-same)
 
   -- `joined-insert`, by equations
   pub joined-after_insert : (index after : List (ℕ × ℕ)) (old mid new : Slab T) (tid key : ℕ) (v : T) →
       after ≡ insert_entry nat_cmp index tid key → mid.slots ≡ old.slots → IsJoined index old → get mid key ≡ None →
       Updates mid new key (Some v) → joined after new ≡ insert_entry nat_cmp (joined index old) tid v
   joined-after_insert index after old mid new tid key v same slots h vacant updates =
-      ap (λ es. joined es new) same
-      ∙ joined-insert index mid new tid key v (IsJoined-same index old mid slots h) vacant updates
-      ∙ ap (λ xs. insert_entry nat_cmp xs tid v) (joined-same index old mid slots)
+      search (rules, joined-insert, IsJoined-same, joined-same)
 
   -- `IsJoined-remove`, by equations
   pub IsJoined-after_remove : (test : ℕ → Bool) (index after : List (ℕ × ℕ)) (old new : Slab T) (key : ℕ) →
@@ -425,13 +364,11 @@ module _ {T : Type 0} where
   pub joined-after_remove : (test : ℕ → Bool) (index after : List (ℕ × ℕ)) (old new : Slab T) (key : ℕ) →
       after ≡ remove_entry test index → IsJoined index old → lookup test index ≡ Some key → Updates old new key None →
       joined after new ≡ remove_entry test (joined index old)
-  joined-after_remove test index after old new key same h found updates =
-      ap (λ es. joined es new) same ∙ joined-remove test index old new key h found updates
+  joined-after_remove test index after old new key same h found updates = search (rules, joined-remove)
 
   remove_nothing_there : (b : Bool) (e : ℕ × T) (es more : List (ℕ × T)) (m : Option T) → (m ≡ None → more ≡ es) →
       cond b (Some e.1) m ≡ None → cond b es (e ∷ more) ≡ e ∷ es
-  remove_nothing_there true e es more m rest found = absurd (cc)
-  remove_nothing_there false e es more m rest found = ap (λ xs. e ∷ xs) (rest found)
+  remove_nothing_there b e es more m rest found = search rules
 
   -- to remove a key that is not there changes nothing
   pub remove_nothing : (test : ℕ → Bool) (es : List (ℕ × T)) → lookup test es ≡ None → remove_entry test es ≡ es
@@ -444,13 +381,7 @@ module _ {T : Type 0} where
   others_kept s key other w differs = get_or-set_other s.slots key other (Some w) None differs
 
   has_still : (s : Slab T) (key k : ℕ) (w : T) → IsSome (get s k) → IsSome (get (with_value s key w) k)
-  has_still s key k w here =
-      elim (cases_eq k key) [
-        | inl same ↦
-            let there : IsSome (get s key) = subst (λ (x : ℕ). IsSome (get s x)) same here in
-            ap is_some (ap (get (with_value s key w)) same ∙ (Updates-with_value s key w there).changed)
-        | inr differs ↦ ap is_some (others_kept s key k w differs) ∙ here
-      ]
+  has_still s key k w here = grind (arith, common_steps)
 
   -- a slot that was lent keeps them joined
   pub IsJoined-lent : (index : List (ℕ × ℕ)) (s : Slab T) (key : ℕ) (w : T) → IsJoined index s →
@@ -461,14 +392,11 @@ module _ {T : Type 0} where
   joined-free : (index : List (ℕ × ℕ)) (s : Slab T) (key : ℕ) (w : T) → IsFree key index →
       joined index (with_value s key w) ≡ joined index s
   joined-free [] s key w free = refl
-  joined-free (e ∷ index) s key w free =
-      ap (λ o. with_found e.0 o (joined index (with_value s key w))) (others_kept s key e.1 w free.0)
-      ∙ ap (λ xs. with_found e.0 (get s e.1) xs) (joined-free index s key w free.1)
+  joined-free (e ∷ index) s key w free = search (rules, others_kept, joined-free index s key w free.1)
 
   set_nothing_there : (b : Bool) (e : ℕ × T) (es more : List (ℕ × T)) (w : T) (m : Option T) → (m ≡ None → more ≡ es) →
       cond b (Some e.1) m ≡ None → cond b ((e.0, w) ∷ es) (e ∷ more) ≡ e ∷ es
-  set_nothing_there true e es more w m rest found = absurd (cc)
-  set_nothing_there false e es more w m rest found = ap (λ xs. e ∷ xs) (rest found)
+  set_nothing_there b e es more w m rest found = search rules
 
   set_nothing : (test : ℕ → Bool) (es : List (ℕ × T)) (w : T) → lookup test es ≡ None → set_value test es w ≡ es
   set_nothing test [] w found = refl
@@ -490,9 +418,7 @@ module _ {T : Type 0} where
   -- what is found under a key, for either result of the look-up
   pub joined-lookup_for : (test : ℕ → Bool) (index : List (ℕ × ℕ)) (s : Slab T) (key : ℕ) (found : Option ℕ) →
       IsJoined index s → lookup test index ≡ found → IsKeyFor found key s → get s key ≡ lookup test (joined index s)
-  joined-lookup_for test index s key None h looked vacant = vacant ∙ sym (joined-absent test index s h looked)
-  joined-lookup_for test index s key (Some found) h looked same =
-      sym (joined-lookup test index s key h (looked ∙ ap Some (sym same)))
+  joined-lookup_for test index s key found h looked h7 = search (rules, joined-absent, joined-lookup)
 
   -- ---- reserved capacity for a value at an identifier that holds none
   -- a key that the list has not is not in the index

@@ -1,18 +1,14 @@
 -- The file got its name by a link, or by a rename where the system made none.
-use Rattle.tftp_client.proofs.Common.{Err, inr, string_bytes, made_when, Linked, calls_of, handed, SyncsFolder, Refused}
-use Rattle.tftp_client.proofs.Common.{paths_of}
+use Rattle.std.proofs.Common.{rules}
+use Rattle.tftp_client.proofs.Common.{inr, made_when, calls_of, handed, SyncsFolder, Refused, paths_of}
 use Rattle.tftp_disk.specs.DiskTrace.{state_of}
-use Rattle.tftp_client.proofs.Changing.{link_keeps, unlinked_keeps}
+use Rattle.tftp_client.proofs.Changing.{link_keeps}
 use Rattle.tftp_client.proofs.NamedFile.{linked_named, on_ok}
 use Rattle.tftp_client.proofs.StillThere.{left_as, left_there, lost_there, on_err}
 use Rattle.tftp_client.proofs.naming.name_new.Goals as goal
 
 pub returns-in-Ok-clause-keeps : goal.returns-in-Ok-clause-keeps
-returns-in-Ok-clause-keeps g c =
-    link_keeps c.args.folder.now.folder (paths_of c.args.names.now Refused)
-    (state_of (calls_of c.args.written.now.writer)) (g.D.Looks.log c.args.disk.now)
-    (g.D.Looks.log c.link.new.disk) (g.D.Looks.log c.keep_one.new.disk) c.keep_one.result c.in-Ok.ensures
-    c.keep_one.ensures.ok c.keep_one.ensures.err
+returns-in-Ok-clause-keeps g c = link_keeps _ _ _ _ _ _ _ c.in-Ok.ensures c.keep_one.ensures.ok c.keep_one.ensures.err
 
 pub returns-in-Ok-clause-ok : goal.returns-in-Ok-clause-ok
 returns-in-Ok-clause-ok g c =
@@ -24,10 +20,7 @@ returns-in-Ok-clause-ok g c =
     c.keep_one.ensures.ok
 
 pub returns-else-eq-clause-keeps : goal.returns-else-eq-clause-keeps
-returns-else-eq-clause-keeps g c =
-    unlinked_keeps (paths_of c.args.names.now Refused) (state_of (calls_of c.args.written.now.writer))
-    (g.D.Looks.log c.args.disk.now) (g.D.Looks.log c.link.new.disk) (g.D.Looks.log c.rename_new.new.disk)
-    c.in-Err.error c.in-Err.ensures c.rename_new.ensures.keeps
+returns-else-eq-clause-keeps g c = search rules
 
 pub returns-else-eq-clause-ok : goal.returns-else-eq-clause-ok
 returns-else-eq-clause-ok g c =
@@ -57,15 +50,11 @@ pub rename_new-requires-clause-still : goal.rename_new-requires-clause-still
 rename_new-requires-clause-still g c =
     let names = c.args.names.now in
     let written = c.args.written.now in
-    left_there (string_bytes names.part) (made_when (calls_of written.writer))
-    (Linked (state_of (calls_of written.writer)) (string_bytes names.part) (string_bytes names.local) (Err c.in-Err.error))
-    (g.D.Looks.log c.args.disk.now) (g.D.Looks.log c.link.new.disk) tt c.in-Err.ensures c.requires.still
+    left_there _ _ _ _ _ tt c.in-Err.ensures c.requires.still
 
 pub returns-then-eq-clause-err : goal.returns-then-eq-clause-err
 returns-then-eq-clause-err g c =
     let names = c.args.names.now in
     let written = c.args.written.now in
-    left_as (paths_of names Refused) written (g.D.Looks.log c.link.new.disk)
-    (left_there (string_bytes names.part) (made_when (calls_of written.writer))
-    (Linked (state_of (calls_of written.writer)) (string_bytes names.part) (string_bytes names.local) (Err c.in-Err.error))
-    (g.D.Looks.log c.args.disk.now) (g.D.Looks.log c.link.new.disk) tt c.in-Err.ensures c.requires.still)
+    left_as (paths_of names Refused) written (g.D.Looks.log c.link.new.disk) (left_there _ _ _ _ _ tt c.in-Err.ensures
+    c.requires.still)

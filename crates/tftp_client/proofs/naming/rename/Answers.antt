@@ -1,8 +1,5 @@
 -- The file has one name or the other.
-use Rattle.tftp_client.proofs.Common.{List, ◌∷◌, Err, ap, ◌∙◌, string_bytes, DiskEvent, made_when, Folder_synced}
-use Rattle.tftp_client.proofs.Common.{calls_of, path_in, paths_of}
-use Rattle.tftp_disk.specs.DiskTrace.{state_of}
-use Rattle.tftp_disk.specs.DiskTrace.DiskEvent.{Renamed}
+use Rattle.tftp_client.proofs.Common.{List, ◌∷◌, Err, ap, ◌∙◌, DiskEvent, Folder_synced, path_in, paths_of}
 use Rattle.tftp_client.proofs.StillThere.{left_as, left_there, moved_as}
 use Rattle.tftp_client.proofs.naming.rename.Goals as goal
 
@@ -11,10 +8,7 @@ returns-in-Err-clause-err g c =
     let names = c.args.names.now in
     let written = c.args.written.now in
     let after = g.D.Looks.log c.exchange.new.disk in
-    left_as (paths_of names c.args.existing) written after
-    (left_there (string_bytes names.part) (made_when (calls_of written.writer))
-    (Renamed (state_of (calls_of written.writer)) (string_bytes names.part) (string_bytes names.local) (Err c.in-Err.error))
-    (g.D.Looks.log c.args.disk.now) after tt c.in-Err.ensures c.requires.still)
+    left_as (paths_of names c.args.existing) written after (left_there _ _ _ _ _ tt c.in-Err.ensures c.requires.still)
 
 pub returns-in-Err-sync_folder-clause-err : goal.returns-in-Err-sync_folder-clause-err
 returns-in-Err-sync_folder-clause-err g c =

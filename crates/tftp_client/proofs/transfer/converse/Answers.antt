@@ -1,5 +1,6 @@
 -- A run that is complete, and then its line; or one that stopped, and then its file was written.
-use Rattle.tftp_client.proofs.Common.{arith, refl, ap, ℕ, state_of, printed}
+use Rattle.std.proofs.Common.{rules}
+use Rattle.tftp_client.proofs.Common.{refl, ap, ℕ, state_of, printed}
 use Rattle.tftp_client.specs.Runs.{line_by}
 use Rattle.tftp_client.proofs.LeftBytes.{written_out}
 use Rattle.tftp_client.proofs.NamedOnDisk.{kept, kept_then}
@@ -19,24 +20,16 @@ returns-in-Ok-clause-ok g c =
       converses = c.run-ended.ensures.converses;
       complete = c.in-Ok.ensures.complete;
       stays =
-          goes_on _ _ c.run-ended.ensures.counted c.run-ended.ensures.port
-          (ap (λ (n : ℕ). printed (line_by c.conclude.result n) last) c.count_of-count.ensures)
-          c.conclude.ensures.goes;
-      kept =
-          kept _ _ (λ before after committed same. same) c.run-ended.new.files c.conclude.new.files
-          c.conclude.ensures.goes.converses;
+          goes_on _ _ c.run-ended.ensures.counted c.run-ended.ensures.port (ap (λ (n : ℕ). printed (line_by
+          c.conclude.result n) last) c.count_of-count.ensures) c.conclude.ensures.goes;
+      kept = search (rules, kept);
     }
 
 pub returns-in-Ok-clause-keeps : goal.returns-in-Ok-clause-keeps
-returns-in-Ok-clause-keeps g c =
-    kept_then c.args.files.now c.run-ended.new.files c.conclude.new.files
-    (kept _ _ (λ before after committed same. same) c.args.files.now c.run-ended.new.files c.run-ended.ensures.converses)
-    (kept _ _ (λ before after committed same. same) c.run-ended.new.files c.conclude.new.files
-    c.conclude.ensures.goes.converses)
+returns-in-Ok-clause-keeps g c = search (rules, kept_then, kept)
 
 pub returns-in-Ok-clause-counts : goal.returns-in-Ok-clause-counts
-returns-in-Ok-clause-counts g c =
-    record { counted = tt; within = omega (arith, c.conclude.ensures.waits, c.run-ended.ensures.counted) }
+returns-in-Ok-clause-counts g c = search rules
 
 pub returns-in-Err-clause-err : goal.returns-in-Err-clause-err
 returns-in-Err-clause-err g c = (
@@ -55,10 +48,7 @@ returns-in-Err-clause-err g c = (
 )
 
 pub returns-in-Err-clause-keeps : goal.returns-in-Err-clause-keeps
-returns-in-Err-clause-keeps g c =
-    kept _ _ (λ before after committed same. same) c.args.files.now c.write_out.new.files
-    (written_out _ _ c.write_out.new.files c.write_out.ensures.works c.run-ended.ensures.converses)
+returns-in-Err-clause-keeps g c = search (rules, kept, written_out)
 
 pub returns-in-Err-clause-counts : goal.returns-in-Err-clause-counts
-returns-in-Err-clause-counts g c =
-    record { counted = c.run-ended.ensures.counted; within = omega (arith, c.run-ended.ensures.counted) }
+returns-in-Err-clause-counts g c = search rules

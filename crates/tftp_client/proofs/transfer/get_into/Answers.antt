@@ -1,10 +1,12 @@
 -- The run from its request on.
-use Rattle.tftp_client.proofs.Common.{Some, arith, ap, refl, IfOk-weaker, waits, State, job_paths}
+use Rattle.std.proofs.Common.{rules, arith as std_arith}
+use Rattle.std.proofs.lemmas.Grind.{common_steps}
+use Rattle.tftp_client.proofs.Common.{Some, ap, refl, IfOk-weaker, waits}
 use Rattle.tftp_negotiate.specs.declared.known.Kind.TheVariants.{Read}
 use Rattle.tftp_client.proofs.Concluding.{stores}
-use Rattle.tftp_client.proofs.LeftBytes.{leaves, leaves_none}
-use Rattle.tftp_client.proofs.NamedOnDisk.{has_calls, keeps_disk, received}
-use Rattle.tftp_client.proofs.Running.{counts_from, if_err}
+use Rattle.tftp_client.proofs.LeftBytes.{leaves}
+use Rattle.tftp_client.proofs.NamedOnDisk.{has_calls, received}
+use Rattle.tftp_client.proofs.Running.{if_err}
 use Rattle.tftp_client.proofs.transfer.get_into.Goals as goal
 
 pub returns-clause-ok : goal.returns-clause-ok
@@ -17,25 +19,18 @@ returns-clause-ok g c =
 
 pub returns-clause-err : goal.returns-clause-err
 returns-clause-err g c =
-    if_err c.converse-ended.result _ _
-    (λ failure stopped. leaves _ _ (λ local. refl) (λ before after committed same. same)
-    c.args.waits.now failure.end Read c.args.job.now 0 _ _ (g.D.Looks.log c.disk_of.result) _
-    c.converse-ended.new.files c.in-Ok.ensures.may c.in-Ok.ensures.begins stopped tt (ap Some c.requires.empty)
-    c.requires.paths (has_calls c.converse-ended.new.files c.disk_of.result c.disk_of.ensures))
-    c.converse-ended.ensures.err
+    if_err c.converse-ended.result _ _ (λ failure stopped. leaves _ _ (λ local. refl) (λ before after committed same.
+    same) _ _ _ _ 0 _ _ _ _ _ c.in-Ok.ensures.may c.in-Ok.ensures.begins stopped tt (ap Some c.requires.empty)
+    c.requires.paths (has_calls _ _ c.disk_of.ensures)) c.converse-ended.ensures.err
 
 pub returns-clause-keeps : goal.returns-clause-keeps
-returns-clause-keeps g c =
-    keeps_disk c.args.local c.converse-ended.new.files c.disk_of.result (job_paths c.args.job.now) c.requires.paths
-    c.converse-ended.ensures.keeps c.disk_of.ensures
+returns-clause-keeps g c = search rules
 
 pub returns-clause-counts : goal.returns-clause-counts
-returns-clause-counts g c =
-    counts_from c.converse-ended.ensures.counts (omega (arith, ap (λ (s : State). waits s.events) c.in-Ok.ensures.begins))
+returns-clause-counts g c = search rules
 
 pub disk_of-requires : goal.disk_of-requires
 disk_of-requires g c = received c.args.local c.converse-ended.new.files c.converse-ended.ensures.keeps
 
 pub returns-in-Err-clause-err : goal.returns-in-Err-clause-err
-returns-in-Err-clause-err g c =
-    leaves_none _ _ _ c.in-Err.failure.end Read c.args.job.now 0 _ _ _ c.in-Err.ensures.err.0 c.in-Err.ensures.err.1
+returns-in-Err-clause-err g c = grind (std_arith, common_steps)

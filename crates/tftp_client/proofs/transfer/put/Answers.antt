@@ -15,5 +15,4 @@ returns-in-Ok-clause-err g c =
     c.put_from.ensures.err
 
 pub returns-clause-err : goal.returns-clause-err
-returns-clause-err g c =
-    (0, leaves_none _ _ _ c.of_file.result.end Write c.args.job.now 0 _ _ _ (ap status_of c.of_file.ensures) refl)
+returns-clause-err g c = (0, leaves_none _ _ _ _ Write c.args.job.now 0 _ _ _ (ap status_of c.of_file.ensures) refl)

@@ -20,26 +20,12 @@ pub returns-clause-ok : goal.returns-clause-ok
 returns-clause-ok g c =
     let left = rw c.in-Err.is at c.transfer_once-ended.ensures.err in
     let counted = rw c.in-Err.is at c.transfer_once-ended.ensures.counts.counted in
-    IfOk-weaker c.transfer_once.result.0 _ _
-    (λ status ended. again_stores _ _ c.args.job.now c.plain.result _
-    (record {
-      end = c.in-Err.failure.end;
-      fails = left.0;
-      allowed = c.falls_back.ensures.0 c.if-not-falls_back.false;
-    })
-    c.plain.ensures counted ended)
-    c.transfer_once.ensures.ok
+    IfOk-weaker c.transfer_once.result.0 _ _ (λ status ended. again_stores _ _ c.args.job.now c.plain.result _ (search
+    (c.falls_back.ensures.0 c.if-not-falls_back.false)) c.plain.ensures counted ended) c.transfer_once.ensures.ok
 
 pub returns-clause-err : goal.returns-clause-err
 returns-clause-err g c =
     let left = rw c.in-Err.is at c.transfer_once-ended.ensures.err in
     let counted = rw c.in-Err.is at c.transfer_once-ended.ensures.counts.counted in
-    if_err c.transfer_once.result.0 _ _
-    (λ failure again. leaves_again _ _ c.args.job.now c.plain.result _ _ _ _ failure.end
-    (record {
-      end = c.in-Err.failure.end;
-      fails = left.0;
-      allowed = c.falls_back.ensures.0 c.if-not-falls_back.false;
-    })
-    c.plain.ensures counted again)
-    c.transfer_once.ensures.err
+    if_err c.transfer_once.result.0 _ _ (λ failure again. leaves_again _ _ _ _ _ _ _ _ _ (search (c.falls_back.ensures.0
+    c.if-not-falls_back.false)) c.plain.ensures counted again) c.transfer_once.ensures.err

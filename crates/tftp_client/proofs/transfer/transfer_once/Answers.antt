@@ -1,4 +1,5 @@
 -- A job of either kind.
+use Rattle.std.proofs.Common.{rules}
 use Rattle.tftp_client.proofs.Common.{refl, IfOk-weaker}
 use Rattle.tftp_client.proofs.Concluding.{end_job, keeps_got, keeps_none, put_stores}
 use Rattle.tftp_client.proofs.LeftBytes.{leaves_job}
@@ -10,9 +11,7 @@ returns-in-Read-clause-ok g c = IfOk-weaker c.get.result.0 _ _ (λ status ends.
     end_job _ _ c.args.job.now c.in-Read.is ends) c.get.ensures.ok
 
 pub returns-in-Read-clause-err : goal.returns-in-Read-clause-err
-returns-in-Read-clause-err g c =
-    if_err c.get.result.0 _ _ (λ failure left. leaves_job _ _ _ c.args.job.now 0 _ _ _ failure.end c.in-Read.is left)
-    c.get.ensures.err
+returns-in-Read-clause-err g c = search (rules, if_err, leaves_job)
 
 pub returns-in-Read-clause-keeps : goal.returns-in-Read-clause-keeps
 returns-in-Read-clause-keeps g c = keeps_got c.args.job.now _ _ c.in-Read.is c.get.ensures.keeps

@@ -7,8 +7,6 @@ use Rattle.tftp_disk.proofs.disk_source.read_into.Goals as goal
 pub returns-in-Ok-clause-ok : goal.returns-in-Ok-clause-ok
 returns-in-Ok-clause-ok g c =
     let read = c.in-Ok.ensures in
-    appends_read _ _ c.args.out.now.items _ c.append_zeros.new.out.items c.as_mut_slice.result.now _
-    c.read_at.new.buffer c.truncate.new.self.items c.len-start.result c.in-Ok.count (search (rules, places))
-    c.append_zeros.ensures.items c.as_mut_slice.ensures.value read.front read.bound
-    (with_items_is c.append_zeros.new.out c.read_at.new.buffer (search (rules, places)))
-    c.truncate.ensures.items read.noted
+    appends_read _ _ _ _ _ _ _ _ _ _ _ (search (rules, places)) c.append_zeros.ensures.items
+    c.as_mut_slice.ensures.value read.front read.bound (with_items_is c.append_zeros.new.out c.read_at.new.buffer
+    (search (rules, places))) c.truncate.ensures.items read.noted

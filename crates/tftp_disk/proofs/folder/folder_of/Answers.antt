@@ -19,8 +19,7 @@ cut_at path i j found front name before after =
 pub returns-in-Some : goal.returns-in-Some
 returns-in-Some c =
     let cut = c.in-Some.ensures.cases in
-    subst (IsFolderOf c.args.path.now) (sym c.folder_or_root.ensures)
-    (cut_at c.args.path.now cut.0 cut.1 cut.2 _ _ cut.3 cut.4)
+    subst (IsFolderOf c.args.path.now) (sym c.folder_or_root.ensures) (cut_at _ _ _ cut.2 _ _ cut.3 cut.4)
 
 pub returns-in-None : goal.returns-in-None
 returns-in-None c = Here (λ k. NoCharPasses-char 47 c.args.path.now k c.in-None.ensures.cases (omega arith))

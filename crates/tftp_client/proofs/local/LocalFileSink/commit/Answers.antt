@@ -1,8 +1,8 @@
 -- What was named has what was appended, and stays so; what was not is left.
+use Rattle.std.proofs.Common.{rules}
 use Rattle.tftp_client.proofs.Common.{ℕ, List, sym, ap, subst, ◌∙◌, length, ∥∥₁_map, Paths, WasNamed, bytes_in}
 use Rattle.tftp_client.proofs.Common.{paths_of}
-use Rattle.tftp_client.proofs.Changing.{keeps_as}
-use Rattle.tftp_client.proofs.TriedOnce.{given_still, left_still}
+use Rattle.tftp_client.proofs.TriedOnce.{given_still}
 use Rattle.tftp_client.proofs.local.LocalFileSink.commit.Goals as goal
 
 pub invariant_of-self-clause-named : goal.invariant_of-self-clause-named
@@ -17,15 +17,7 @@ invariant_of-self-clause-named g c committed =
     )
 
 pub returns-in-Err-clause-leaves : goal.returns-in-Err-clause-leaves
-returns-in-Err-clause-leaves g c =
-    let old = c.args.self.now.part in
-    let mid = c.commit.new.self in
-    let same = c.record_error.ensures.part in
-    keeps_as (paths_of old.names old.existing) (paths_of mid.names mid.existing)
-    (paths_of c.record_error.new.self.part.names c.record_error.new.self.part.existing) old.is_tried
-    mid.is_tried c.record_error.new.self.part.is_tried (g.D.Looks.log old.disk) (g.D.Looks.log mid.disk)
-    (g.D.Looks.log c.record_error.new.self.part.disk) c.commit.ensures.place
-    (λ k. paths_of (same k).names (same k).existing) (λ k. (same k).is_tried) (λ k. g.D.Looks.log (same k).disk)
+returns-in-Err-clause-leaves g c = search rules
 
 pub invariant_of-self-in-Err-1 : goal.invariant_of-self-in-Err-1
 invariant_of-self-in-Err-1 g c =
@@ -34,6 +26,5 @@ invariant_of-self-in-Err-1 g c =
     record {
       counts = c.args.self.now.counts ∙ sym (ap length c.commit.ensures.bytes);
       named = λ committed. given_still old new c.commit.ensures.same (c.args.self.now.named committed);
-      left = λ open_file.
-          left_still old new c.commit.ensures.same c.in-Err.ensures.left (c.args.self.now.left open_file);
+      left = search rules;
     }

@@ -18,8 +18,7 @@ returns-in-Err-clause-refused g c =
     let paths = paths_of c.args.names c.args.existing in
     let before = g.D.Looks.log c.args.disk.now in
     let looked = look_noted paths.local c.look.result before c.look.ensures c.as_str.ensures.value in
-    subst (λ (log : List DiskEvent). FindsNone paths c.args.existing before c.in-Err.error log) (sym looked)
-    (IsTaken c.look.result c.in-Err.ensures.looks)
+    rw (looked) (IsTaken c.look.result c.in-Err.ensures.looks)
 
 pub returns-in-Err-check_part-clause-refused : goal.returns-in-Err-check_part-clause-refused
 returns-in-Err-check_part-clause-refused g c =
@@ -28,9 +27,7 @@ returns-in-Err-check_part-clause-refused g c =
     let looked = look_noted paths.local c.look.result before c.look.ensures c.as_str.ensures.value in
     let looked_again = look_noted paths.part c.look-in-Ok.result (g.D.Looks.log c.look.new.self) c.look-in-Ok.ensures
     c.as_str-in-Ok.ensures.value ∙ ap (λ (log : List DiskEvent). Looked paths.part c.look-in-Ok.result ∷ log) looked in
-    subst (λ (log : List DiskEvent). FindsNone paths c.args.existing before c.in-Err-check_part.error log)
-    (sym looked_again)
-    (PartIsTaken c.look.result c.look-in-Ok.result (c.in-Ok.field-0, c.in-Ok.ensures.looks)
+    rw (looked_again) (PartIsTaken c.look.result c.look-in-Ok.result (c.in-Ok.field-0, c.in-Ok.ensures.looks)
     c.in-Err-check_part.ensures.taken)
 
 pub returns-in-Err-of-clause-refused : goal.returns-in-Err-of-clause-refused
@@ -41,11 +38,8 @@ returns-in-Err-of-clause-refused g c =
     let looked_again = look_noted paths.part c.look-in-Ok.result (g.D.Looks.log c.look.new.self) c.look-in-Ok.ensures
     c.as_str-in-Ok.ensures.value ∙ ap (λ (log : List DiskEvent). Looked paths.part c.look-in-Ok.result ∷ log) looked in
     let opens = c.of.ensures.calls in
-    let opened : g.D.Looks.log c.of.new.disk ≡ Folder_opened opens.0 opens.1 ∷ Looked paths.part c.look-in-Ok.result
-    ∷ Looked paths.local c.look.result ∷ before =
-    opens.3 ∙ ap (λ (log : List DiskEvent). Folder_opened opens.0 opens.1 ∷ log) looked_again in
-    subst (λ (log : List DiskEvent). FindsNone paths c.args.existing before (errors.System c.in-Err-of.error) log)
-    (sym opened)
-    (HasNoFolder c.look.result c.look-in-Ok.result opens.0 opens.1 (c.in-Ok.field-0, c.in-Ok.ensures.looks)
-    c.in-Ok-check_part.ensures.free
-    (subst (λ (p : List ℕ). IsFolderOf p opens.0) c.as_str-in-Ok-check_part.ensures.value opens.2))
+    let opened = opens.3 ∙ ap (λ (log : List DiskEvent). Folder_opened opens.0 opens.1 ∷ log) looked_again in
+    subst (λ (log : List DiskEvent). FindsNone paths c.args.existing before (errors.System c.in-Err-of.error) log) (sym
+    opened) (HasNoFolder c.look.result c.look-in-Ok.result opens.0 opens.1 (c.in-Ok.field-0, c.in-Ok.ensures.looks)
+    c.in-Ok-check_part.ensures.free (subst (λ (p : List ℕ). IsFolderOf p opens.0)
+    c.as_str-in-Ok-check_part.ensures.value opens.2))

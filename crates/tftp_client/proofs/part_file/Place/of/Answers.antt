@@ -10,8 +10,7 @@ has_none (byte ∷ text) none = absurd (omega (arith, none))
 
 pub returns-then-is_empty-clause-refused : goal.returns-then-is_empty-clause-refused
 returns-then-is_empty-clause-refused g c =
-    IsEmpty (has_none c.args.local.now
-    (eqb-true (length c.args.local.now) 0 (sym c.is_empty.ensures ∙ c.if-is_empty.true)))
+    IsEmpty (has_none _ (eqb-true (length c.args.local.now) 0 (sym c.is_empty.ensures ∙ c.if-is_empty.true)))
 
 pub returns-in-Err-clause-refused : goal.returns-in-Err-clause-refused
 returns-in-Err-clause-refused g c = HasNoMemory c.from.ensures

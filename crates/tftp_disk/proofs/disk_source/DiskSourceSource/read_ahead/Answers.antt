@@ -1,6 +1,6 @@
 -- What is read ahead is not given yet.
-use Rattle.std.proofs.Common.{◌≡◌, ◌∙◌, arith, refl, false, true, inl, is_some, sym}
-use Rattle.tftp_disk.proofs.DiskSourceLemmas.{gives_ahead}
+use Rattle.std.proofs.lemmas.Grind.{common_steps}
+use Rattle.std.proofs.Common.{◌≡◌, ◌∙◌, arith, false, true, inl, is_some, sym}
 use Rattle.tftp_disk.proofs.disk_source.DiskSourceSource.read_ahead.Goals as goal
 
 pub returns-clause-ahead : goal.returns-clause-ahead
@@ -10,7 +10,5 @@ returns-clause-ahead g c =
       left = inl tt;
       may_fail = λ want may. tt;
       fails = λ all want. absurd (let both : false ≡ true = sym sound ∙ all 0 in cc);
-      gave =
-          gives_ahead c.args.self.now _ (omega (arith, c.if-len-gt0.false, c.len.ensures)) refl sound
-          c.read-self.ensures.ok c.read-self.ensures.failed;
+      gave = grind (arith, common_steps);
     }

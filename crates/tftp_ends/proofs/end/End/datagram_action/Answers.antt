@@ -1,6 +1,7 @@
 -- An action fits the end and the datagram.
-use Rattle.tftp_ends.proofs.Common.{◌≡◌, ℕ, List, Option, Some, Result, Ok, Err, sym, subst, rules, Spells, Action}
-use Rattle.tftp_ends.proofs.Common.{Decodes, BytesFit}
+use Rattle.std.proofs.Common.{rules as std_rules}
+use Rattle.tftp_ends.proofs.Common.{◌≡◌, ℕ, List, Option, Some, Result, sym, subst, rules, Spells, Action, Decodes}
+use Rattle.tftp_ends.proofs.Common.{BytesFit}
 use Rattle.std.specs.Prelude.{IfOk, IfErr, option_map}
 use Rattle.std.specs.Result.{result_ok}
 use Rattle.tftp_wire.specs.declared.packet.PacketRef.{PacketRef}
@@ -14,8 +15,7 @@ use Rattle.tftp_ends.proofs.end.End.datagram_action.Goals as goal
 decodes : (bytes : List ℕ) (r : Result PacketRef PacketFault) (decoded : Option PacketRef) →
     IfOk r (λ p. Spells (owned p) bytes) → IfErr r (λ fault. first_fault bytes ≡ Some fault) →
     decoded ≡ result_ok r → Decodes bytes (option_map owned decoded)
-decodes bytes (Ok p) decoded found fault is = rw is found
-decodes bytes (Err e) decoded found fault is = rw is (e, fault)
+decodes bytes r decoded found fault is = search std_rules
 
 pub returns-clause-bytes : goal.returns-clause-bytes
 returns-clause-bytes c =

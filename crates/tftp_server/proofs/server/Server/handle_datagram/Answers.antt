@@ -36,14 +36,11 @@ returns-in_err-handle_datagram-clause-unmoved g c =
 
 pub returns-in_err-handle_datagram-clause-why : goal.returns-in_err-handle_datagram-clause-why
 returns-in_err-handle_datagram-clause-why g c =
-    rw (returned _ _ c.from_residual.ensures.1, ← c.self.view_is)
-    (λ e. record {
-      transfer = c.in-Some.transfer.now;
-      next = c.handle_datagram.new.self;
-      found = sym c.in-Some.ensures.value;
-      lacks = when_memory c.in_err-handle_datagram.field-0.0 c.in_err-handle_datagram.ensures.why e;
-      held = refl;
-    })
+    rw (returned _ _ c.from_residual.ensures.1, ← c.self.view_is) (λ e. search (
+      sym c.in-Some.ensures.value,
+      when_memory
+          c.in_err-handle_datagram.field-0.0 c.in_err-handle_datagram.ensures.why e,
+    ))
 
 pub returns-clause-held : goal.returns-clause-held
 returns-clause-held g c = still_held c.args.tid _ c.in-Some.transfer.now c.handle_datagram.new.self c.in-Some.ensures.value

@@ -1,16 +1,13 @@
 -- What the transfer at the identifier does is what the server does; its fault is the server's.
 use Rattle.std.proofs.Common.{refl}
-use Rattle.tftp_server.specs.Steps.{lends}
 use Rattle.tftp_server.proofs.HeldLemmas.{still_held}
 use Rattle.tftp_server.proofs.StepsLemmas.{handled_open, times_out, nothing_changed, returned}
 use Rattle.tftp_server.proofs.server.Server.handle_timeout.Goals as goal
 
 pub returns-clause-steps : goal.returns-clause-steps
 returns-clause-steps g c =
-    rw (← c.self.view_is)
-    (times_out c.args.tid c.in-Some.ensures.value (lends c.in_ok-handle_timeout.field-0.1)
-    (handled_open c.in-Some.transfer.now c.in_ok-handle_timeout.field-0 c.in_ok-handle_timeout.ensures.closed)
-    c.in_ok-handle_timeout.ensures.steps)
+    rw (← c.self.view_is) (times_out _ c.in-Some.ensures.value _ (handled_open c.in-Some.transfer.now
+    c.in_ok-handle_timeout.field-0 c.in_ok-handle_timeout.ensures.closed) c.in_ok-handle_timeout.ensures.steps)
 
 pub returns-in_err-handle_timeout-clause-err : goal.returns-in_err-handle_timeout-clause-err
 returns-in_err-handle_timeout-clause-err g c =

@@ -1,16 +1,12 @@
 -- What the transfer at the identifier does is what the server does; its fault is the server's.
 use Rattle.std.proofs.Common.{refl}
-use Rattle.tftp_ends.specs.OneFile.{ReceiverStep}
 use Rattle.tftp_server.proofs.CallersLemmas.{lent_step}
 use Rattle.tftp_server.proofs.StepsLemmas.{nothing_changed, returned}
 use Rattle.tftp_server.proofs.server.Server.lend_sink.Goals as goal
 
 pub returns-clause-steps : goal.returns-clause-steps
 returns-clause-steps g c =
-    rw (← c.self.view_is)
-    (lent_step c.args.tid c.in-Some.ensures.value
-    (λ e turn. ReceiverStep g.K.Sink.meaning c.args.from c.args.bytes.now e c.args.sink.now turn c.lend_sink.new.sink)
-    c.in_ok-lend_sink.field-0.1 c.in_ok-lend_sink.ensures.steps)
+    rw (← c.self.view_is) (lent_step _ c.in-Some.ensures.value _ _ c.in_ok-lend_sink.ensures.steps)
 
 pub returns-in_err-lend_sink-clause-err : goal.returns-in_err-lend_sink-clause-err
 returns-in_err-lend_sink-clause-err g c =

@@ -1,15 +1,12 @@
 -- What the transfer at the identifier does is what the server does; its fault is the server's.
 use Rattle.std.proofs.Common.{refl, sym}
-use Rattle.tftp_server.specs.Steps.{appends}
 use Rattle.tftp_server.proofs.StepsLemmas.{handled_open, timeout_fault, times_out, nothing_changed, returned, when_memory}
 use Rattle.tftp_server.proofs.server.Server.on_timeout.Goals as goal
 
 pub returns-clause-steps : goal.returns-clause-steps
 returns-clause-steps g c =
-    rw (← c.self.view_is)
-    (times_out c.args.tid c.in-Some.ensures.value (appends c.args.out.now.items c.on_timeout.new.out.items)
-    (handled_open c.in-Some.transfer.now c.in_ok-on_timeout.field-0 c.in_ok-on_timeout.ensures.closed)
-    c.in_ok-on_timeout.ensures.steps)
+    rw (← c.self.view_is) (times_out _ c.in-Some.ensures.value _ (handled_open c.in-Some.transfer.now
+    c.in_ok-on_timeout.field-0 c.in_ok-on_timeout.ensures.closed) c.in_ok-on_timeout.ensures.steps)
 
 pub returns-in_err-on_timeout-clause-fault : goal.returns-in_err-on_timeout-clause-fault
 returns-in_err-on_timeout-clause-fault g c =
@@ -26,9 +23,8 @@ returns-in_err-on_timeout-clause-err g c =
 
 pub returns-in_err-on_timeout-clause-why : goal.returns-in_err-on_timeout-clause-why
 returns-in_err-on_timeout-clause-why g c =
-    rw (returned _ _ c.from_residual.ensures.1, ← c.self.view_is)
-    (λ e. record {
-      transfer = c.in-Some.transfer.now;
-      found = sym c.in-Some.ensures.value;
-      room = when_memory c.in_err-on_timeout.field-0.0 c.in_err-on_timeout.ensures.why e;
-    })
+    rw (returned _ _ c.from_residual.ensures.1, ← c.self.view_is) (λ e. search (
+      sym c.in-Some.ensures.value,
+      when_memory
+          c.in_err-on_timeout.field-0.0 c.in_err-on_timeout.ensures.why e,
+    ))

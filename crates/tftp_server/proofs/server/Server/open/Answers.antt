@@ -6,9 +6,6 @@ use Rattle.tftp_server.proofs.server.Server.open.Goals as goal
 
 pub returns-in-Refuse-clause-carries_out : goal.returns-in-Refuse-clause-carries_out
 returns-in-Refuse-clause-carries_out g c =
-    rw (← c.admission.view_is)
-    (refuses g.S.Store.meaning g.S.Source.Source.meaning c.args.self.now c.admission.inside.incoming.from
-    c.admission.inside.incoming.bytes.now
-    c.args.tid (ask_of c.admission.inside.action) c.in-Refuse.reply c.args.out.now.items c.refuse.new.out.items
-    c.refuse.result
-    (ap ask_of c.in-Refuse.is) c.refuse.ensures.opened c.refuse.ensures.ok)
+    rw (← c.admission.view_is) (refuses g.S.Store.meaning g.S.Source.Source.meaning c.args.self.now _
+    c.admission.inside.incoming.bytes.now _ _ _ _ _ _ (ap ask_of c.in-Refuse.is) c.refuse.ensures.opened
+    c.refuse.ensures.ok)

@@ -1,7 +1,5 @@
 -- A write sends the first datagram of its end, or an ERROR.
-use Rattle.std.proofs.Common.{◌≡◌, ◌≢◌, length, rules}
-use Rattle.tftp_file.specs.declared.fault.StoreFault.TheVariants.{Memory}
-use Rattle.tftp_server.specs.Port.{begin_reply}
+use Rattle.std.proofs.Common.{◌≡◌, length, rules}
 use Rattle.tftp_server.specs.State.{ServerState}
 use Rattle.tftp_server.proofs.RequestLemmas.{asks_to_write, refused_to_write, refused_bytes, cut_on_err, nothing_begun}
 use Rattle.tftp_server.proofs.server.Server.write.Goals as goal
@@ -13,11 +11,8 @@ returns-clause-sent g c =
     elim c.match-begin.branch [
       | in-Ok-begin w ↦ rw (w.result-is, w.out-is, w.new-transfer.ensures) c.in-Ok.ensures.end.1
       | in-Err w ↦
-          rw (w.result-is, w.out-is)
-          (refused_bytes (begin_reply w.in-Err.fault) (w.in-Err.fault ≢ Memory) c.args.out.now.items
-          c.in-Ok.end.position.last_sent c.prepare.new.out.items w.truncate.new.self.items c.len-start.result
-          w.begin_refused.result
-          start c.in-Ok.ensures.end.1 w.truncate.ensures.items w.begin_refused.ensures.refused)
+          rw (w.result-is, w.out-is) (refused_bytes _ _ _ _ _ _ _ _ start c.in-Ok.ensures.end.1 w.truncate.ensures.items
+          w.begin_refused.ensures.refused)
     ]
 
 pub returns-clause-err : goal.returns-clause-err
@@ -28,13 +23,9 @@ returns-clause-err g c =
     elim c.match-begin.branch [
       | in-Ok-begin w ↦ rw w.result-is tt
       | in-Err w ↦
-          rw (w.result-is, w.out-is, ← c.self.view_is)
-          (nothing_begun g.S.Store.meaning g.S.Source.Source.meaning old c.args.incoming.from c.args.incoming.bytes.now
-          c.begin.new.self w.in-Err.fault c.args.out.now.items w.truncate.new.self.items w.begin_refused.result
-          w.in-Err.ensures.memory w.begin_refused.ensures.why
-          (cut_on_err c.args.out.now.items c.in-Ok.end.position.last_sent c.prepare.new.out.items
-          w.truncate.new.self.items c.len-start.result w.begin_refused.result start c.in-Ok.ensures.end.1
-          w.truncate.ensures.items))
+          rw (w.result-is, w.out-is, ← c.self.view_is) (nothing_begun g.S.Store.meaning g.S.Source.Source.meaning _
+          c.args.incoming.from c.args.incoming.bytes.now _ _ _ _ _ w.in-Err.ensures.memory w.begin_refused.ensures.why
+          (cut_on_err _ _ _ _ _ w.begin_refused.result start c.in-Ok.ensures.end.1 w.truncate.ensures.items))
     ]
 
 pub returns-clause-asks : goal.returns-clause-asks
@@ -43,15 +34,11 @@ returns-clause-asks g c =
     record { config = c.self.inside.config; store = c.self.inside.store; held = c.self.inside.table } in
     elim c.match-begin.branch [
       | in-Ok-begin w ↦
-          rw (w.result-is, ← c.self.view_is)
-          (asks_to_write g.S.Store.meaning g.S.Source.Source.meaning old c.args.incoming.from c.args.incoming.bytes.now
-          c.args.write.path c.args.write.mode c.args.write.agreed c.begin.new.self w.in-Ok-begin.draft c.in-Ok.end
-          c.in-Ok.request.items w.new-transfer.result w.in-Ok-begin.ensures.begins w.in-Ok-begin.ensures.begun
-          c.in-Ok.ensures.end.0 c.in-Ok.ensures.request w.new-transfer.ensures)
+          rw (w.result-is, ← c.self.view_is) (asks_to_write _ g.S.Source.Source.meaning _ _ _ _ _ _ _ _ _ _ _
+          w.in-Ok-begin.ensures.begins w.in-Ok-begin.ensures.begun c.in-Ok.ensures.end.0 c.in-Ok.ensures.request
+          w.new-transfer.ensures)
       | in-Err w ↦
-          rw (w.result-is, ← c.self.view_is)
-          (refused_to_write g.S.Store.meaning g.S.Source.Source.meaning old c.args.incoming.from
-          c.args.incoming.bytes.now c.args.write.path c.args.write.mode c.args.write.agreed c.begin.new.self
-          w.in-Err.fault w.begin_refused.result w.in-Err.ensures.begins w.in-Err.ensures.refused
-          w.in-Err.ensures.begun w.begin_refused.ensures.refused)
+          rw (w.result-is, ← c.self.view_is) (refused_to_write _ g.S.Source.Source.meaning _ c.args.incoming.from
+          c.args.incoming.bytes.now _ c.args.write.mode c.args.write.agreed _ _ _ w.in-Err.ensures.begins
+          w.in-Err.ensures.refused w.in-Err.ensures.begun w.begin_refused.ensures.refused)
     ]

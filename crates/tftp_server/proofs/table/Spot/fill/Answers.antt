@@ -1,7 +1,5 @@
 -- A value in the reserved slot joins index and slots.
-use Rattle.std.proofs.Common.{refl, sym, ap, ◌∙◌}
-use Rattle.std.specs.BTreeMap.{insert_entry}
-use Rattle.std.specs.Ordering.{nat_cmp}
+use Rattle.std.proofs.Common.{refl, sym, ap, ◌∙◌, rules}
 use Rattle.slab.specs.Slab.{get}
 use Rattle.tftp_server.proofs.TableLemmas.{IsJoined-after_insert, joined-after_insert, updates_at}
 use Rattle.tftp_server.proofs.table.Spot.fill.Goals as goal
@@ -9,19 +7,9 @@ use Rattle.tftp_server.proofs.table.Spot.fill.Goals as goal
 pub invariant_of-result : goal.invariant_of-result
 invariant_of-result g c =
     let spot = c.requires.2 in
-    IsJoined-after_insert
-    spot.before c.args.self.index.entries c.args.self.slots c.args.self.slots c.insert_reserved.new.self c.requires.0 _
-    c.args.value
-    spot.grown refl spot.is_joined (ap (get c.args.self.slots) (sym c.insert_reserved.ensures.key)
-    ∙ c.insert_reserved.ensures.was_vacant)
-    (updates_at _ _ _ _ _ c.insert_reserved.ensures.key c.insert_reserved.ensures.updates)
+    IsJoined-after_insert _ _ _ _ _ _ _ _ spot.grown refl spot.is_joined (ap (get c.args.self.slots) (sym
+    c.insert_reserved.ensures.key) ∙ c.insert_reserved.ensures.was_vacant) (updates_at _ _ _ _ _
+    c.insert_reserved.ensures.key c.insert_reserved.ensures.updates)
 
 pub returns : goal.returns
-returns g c tid held spot =
-    joined-after_insert
-    spot.before c.args.self.index.entries c.args.self.slots c.args.self.slots c.insert_reserved.new.self tid _
-    c.args.value
-    spot.grown refl spot.is_joined (ap (get c.args.self.slots) (sym c.insert_reserved.ensures.key)
-    ∙ c.insert_reserved.ensures.was_vacant)
-    (updates_at _ _ _ _ _ c.insert_reserved.ensures.key c.insert_reserved.ensures.updates)
-    ∙ ap (λ xs. insert_entry nat_cmp xs tid c.args.value) spot.holds
+returns g c tid held spot = search (rules, joined-after_insert, updates_at)

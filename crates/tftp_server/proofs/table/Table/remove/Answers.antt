@@ -1,6 +1,5 @@
 -- Without the entry and its slot, index and slots are joined as before.
-use Rattle.std.proofs.Common.{ap, sym, refl, ◌∙◌}
-use Rattle.std.specs.Map.{lookup, remove_entry}
+use Rattle.std.proofs.Common.{sym, rules}
 use Rattle.std.specs.BTreeMap.{is_at}
 use Rattle.std.specs.Ordering.{nat_cmp}
 use Rattle.tftp_server.proofs.TableLemmas.{joined-lookup, joined-absent, joined-after_remove, IsJoined-after_remove}
@@ -13,29 +12,13 @@ invariant_of-self g c =
     c.remove.ensures.entries c.self.invariant (sym c.in-Some.ensures.value) c.try_remove.ensures.updates
 
 pub returns-in-Some-clause-value : goal.returns-in-Some-clause-value
-returns-in-Some-clause-value g c =
-    c.try_remove.ensures.value
-    ∙ sym (joined-lookup (is_at (nat_cmp c.args.tid)) c.self.inside.index.entries c.self.inside.slots c.in-Some.key
-    c.self.invariant (sym c.in-Some.ensures.value))
-    ∙ ap (lookup (is_at (nat_cmp c.args.tid))) c.self.view_is
+returns-in-Some-clause-value g c = search (rules, joined-lookup)
 
 pub returns-in-Some-clause-others : goal.returns-in-Some-clause-others
-returns-in-Some-clause-others g c =
-    joined-after_remove (is_at (nat_cmp c.args.tid)) c.self.inside.index.entries _ c.self.inside.slots _ c.in-Some.key
-    c.remove.ensures.entries c.self.invariant (sym c.in-Some.ensures.value) c.try_remove.ensures.updates
-    ∙ ap (remove_entry (is_at (nat_cmp c.args.tid))) c.self.view_is
+returns-in-Some-clause-others g c = search (rules, joined-after_remove)
 
 pub returns-in-None-clause-value : goal.returns-in-None-clause-value
-returns-in-None-clause-value g c =
-    sym (joined-absent (is_at (nat_cmp c.args.tid)) c.self.inside.index.entries c.self.inside.slots c.self.invariant
-    (sym c.in-None.ensures.value))
-    ∙ ap (lookup (is_at (nat_cmp c.args.tid))) c.self.view_is
+returns-in-None-clause-value g c = search (rules, joined-absent)
 
 pub returns-in-None-clause-others : goal.returns-in-None-clause-others
-returns-in-None-clause-others g c =
-    let absent =
-    joined-absent (is_at (nat_cmp c.args.tid)) c.self.inside.index.entries c.self.inside.slots c.self.invariant
-    (sym c.in-None.ensures.value) in
-    joined-kept _ _ _ _ c.in-None.ensures.unchanged refl
-    ∙ sym (remove_nothing (is_at (nat_cmp c.args.tid)) _ absent)
-    ∙ ap (remove_entry (is_at (nat_cmp c.args.tid))) c.self.view_is
+returns-in-None-clause-others g c = search (rules, joined-absent, joined-kept, remove_nothing)

@@ -1,6 +1,7 @@
 -- A timeout: its step, its note and its answer.
-use Rattle.tftp_client.proofs.Common.{◌∙◌, ap, inr, refl, ◌∷◌, ℕ, sym, subst, EndState, timeout_turn, state_of, IsOpen}
-use Rattle.tftp_client.proofs.Common.{MayElapse, State, deadline_at, Stays, Elapses}
+use Rattle.std.proofs.Common.{rules}
+use Rattle.tftp_client.proofs.Common.{◌∙◌, ap, inr, refl, ◌∷◌, ℕ, sym, subst, EndState, state_of, MayElapse, State}
+use Rattle.tftp_client.proofs.Common.{deadline_at, Stays, Elapses}
 use Rattle.tftp_sockets.specs.Watch.{deadline_of}
 use Rattle.tftp_sockets.specs.Trace.SocketEvent.{Elapsed}
 use Rattle.tftp_client.proofs.Conversing.{is_closed, not_refused, replies, state_is}
@@ -20,19 +21,14 @@ returns-clause-elapses g c =
     let At : State → Type 0 = λ t. MayElapse port s t in
     let lends = c.in-Ok.ensures.steps.0 in
     let noted = c.elapsed.ensures.noted ∙ ap (λ (p : ℕ). Elapsed p s.now ∷ s.events) c.port.ensures in
-    let sent = replies port (timeout_turn s.end).reply c.reply-sent.ensures lends.goes (c.bytes_of.ensures
-    ∙ lends.bytes) noted in
-    let due = c.deadline-self.ensures.value ∙ (ap (λ (n : ℕ). deadline_of s.now n) c.seconds.ensures
-    ∙ ap (λ (e : EndState). deadline_at s.backoff s.now e) lends.state) in
-    subst At (sym (state_is lends.state refl refl due sent))
-    (Elapses c.requires (not_refused _ _ c.in-Ok.ensures.closed))
+    let sent = replies _ _ c.reply-sent.ensures lends.goes (c.bytes_of.ensures ∙ lends.bytes) noted in
+    let due = c.deadline-self.ensures.value ∙ (ap (λ (n : ℕ). deadline_of s.now n) c.seconds.ensures ∙ ap (λ (e :
+    EndState). deadline_at s.backoff s.now e) lends.state) in
+    subst At (sym (state_is lends.state refl refl due sent)) (Elapses c.requires (not_refused _ _
+    c.in-Ok.ensures.closed))
 
 pub returns-in_default-clause-ready : goal.returns-in_default-clause-ready
-returns-in_default-clause-ready g c is_open due =
-    absurd (subst IsOpen c.in_default.ensures.err is_open
-    (is_closed c.in_default.field-0 c.in_default.ensures.closed c.in_default.ensures.memory))
+returns-in_default-clause-ready g c is_open due = search rules
 
 pub returns-clause-ready : goal.returns-clause-ready
-returns-clause-ready g c is_open due =
-    let s : State = state_of c.args.self.now (g.N.Udp.log c.args.net.now) in
-    c.deadline-self.ensures.value ∙ ap (λ (n : ℕ). deadline_of s.now n) c.seconds.ensures
+returns-clause-ready g c is_open due = search rules

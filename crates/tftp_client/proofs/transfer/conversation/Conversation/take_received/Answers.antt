@@ -56,8 +56,6 @@ returns-in-Failed-clause-converses g c =
     c.args.files.now t c.args.files.now in
     let may : MayWait s = record { not_closed = c.requires.not_closed; due = c.requires.ready c.requires.not_closed } in
     let event : QuietEvent = Failed c.args.self.now.socket.port in
-    let noted = c.read_watch.ensures.noted ∙ ap (λ (es : List SocketEvent). Watched c.read_watch.new.watch ∷ es)
-    c.in-Failed.ensures.noted in
-    subst At (sym (state_is refl refl refl refl noted))
-    (Waits {event = event} Begins may (inr refl)
-    (read_by s c.read_watch.new.watch c.read_watch.ensures.time c.read_watch.ensures.reading c.read_watch.ensures.forward))
+    let noted = c.read_watch.ensures.noted ∙ ap (λ es. Watched c.read_watch.new.watch ∷ es) c.in-Failed.ensures.noted in
+    subst At (sym (state_is refl refl refl refl noted)) (Waits {event = event} Begins may (inr refl) (read_by s
+    c.read_watch.new.watch c.read_watch.ensures.time c.read_watch.ensures.reading c.read_watch.ensures.forward))
