@@ -1,22 +1,16 @@
 -- An end has answered what it handled of its peer. For the law an_end_gives_up_unanswered.
-use Rattle.tftp_lives.proofs.Common.{◌≡◌, ℕ, ◌+◌, ◌≤◌, suc, Bool, true, false, not, List, [], ◌∷◌, Some, None, sym, ap}
-use Rattle.tftp_lives.proofs.Common.{◌∙◌, subst, arith, inl, inr, canonical, Packet, Asked, SourceMeaning, SinkMeaning}
-use Rattle.tftp_lives.proofs.Common.{Endpoint, Phase, Waiting, Sending, Receiving, Terms, EndState, is_sender}
-use Rattle.tftp_lives.proofs.Common.{outcome_of, terms_of, Act, Took, Said, Has, newest, next_of, AreOpposite, HasSaid}
-use Rattle.std.proofs.Common.{zero, rules}
-use Rattle.std.specs.Prelude.{option_map}
-use Rattle.std.proofs.lemmas.Option.{same_Some}
-use Rattle.tftp_ends.specs.declared.outcome.Outcome.TheVariants as outcomes
-use Rattle.tftp_ends.specs.End.{number_of}
-use Rattle.tftp_lives.specs.Lives.{HasCopies}
-use Rattle.tftp_lives.specs.Unanswered.{EndsAnswer}
-use Rattle.tftp_lives.specs.Unanswered.{HasTried}
-use Rattle.tftp_lives.specs.Unanswered.{AnswersAtOnce, AnswersWhatItHandled}
+use Rattle.tftp_lives.proofs.Common.{List, ◌≡◌, ℕ, true, Some, None, inl, false, ◌∷◌, inr, sym, ap, subst, arith, ◌∙◌}
+use Rattle.tftp_lives.proofs.Common.{◌≤◌, Bool, [], ◌+◌, suc, not, canonical, Packet, Asked, SinkMeaning, SourceMeaning}
+use Rattle.tftp_lives.proofs.Common.{EndState, is_sender, outcome_of, terms_of, Endpoint, Phase, Receiving, Sending}
+use Rattle.tftp_lives.proofs.Common.{Waiting, Terms, Act, Took, newest, Said, Has, next_of, AreOpposite, HasSaid, rules}
+use Rattle.tftp_lives.proofs.Common.{zero, HasCopies, option_map, same_Some, number_of, AnswersWhatItHandled}
+use Rattle.tftp_lives.specs.Unanswered.{EndsAnswer, HasTried, AnswersAtOnce}
 use Rattle.tftp_lives.proofs.Stands.{AllDue, DueSo, Goes, IsCopied, IsIn, Over, SaidSo, SentBy, Stands, TalksSo, due_at}
 use Rattle.tftp_lives.proofs.Stands.{more_of}
 use Rattle.tftp_lives.proofs.OneOrder.{has_first, has_last, has_there, last_of, split_at}
 use Rattle.tftp_lives.proofs.OpenEnds.{flipped}
 use Rattle.tftp_lives.proofs.LivesStand.{life_stands}
+use Rattle.tftp_ends.specs.declared.outcome.Outcome.TheVariants as outcomes
 
 -- ---- two ends
 copies_fewer : {T : Type 0} (m n : ℕ) (x : T) (ys : List T) → m ≤ n → HasCopies n x ys → HasCopies m x ys

@@ -1,10 +1,11 @@
 -- Every end stands so by what it has heard and sent.
-use Rattle.tftp_lives.proofs.Common.{◌≡◌, ℕ, true, false, List, ◌∷◌, Option, sym, ap, ◌∙◌, subst, inl, inr, is_some}
-use Rattle.tftp_lives.proofs.Common.{true≢false, SourceMeaning, SinkMeaning, Files, Endpoint, Outcome, Phase}
-use Rattle.tftp_lives.proofs.Common.{Dallying, Closed, datagram_action, EndState, is_complete}
-use Rattle.tftp_lives.proofs.Common.{outcome_of, IsOpen, Turn, Acts, after_turn, with_position, Act, Took, Life, Opens}
-use Rattle.tftp_lives.proofs.Common.{Hears, Loses, Times, with_reply, Begins}
-use Rattle.tftp_ends.specs.Step.{DatagramStep}
+use Rattle.tftp_lives.proofs.Common.{List, ◌≡◌, ℕ, true, inl, false, ◌∷◌, Option, inr, sym, ap, subst, ◌∙◌, true≢false}
+use Rattle.tftp_lives.proofs.Common.{is_some, SinkMeaning, SourceMeaning, Files, datagram_action, EndState, outcome_of}
+use Rattle.tftp_lives.proofs.Common.{is_complete, IsOpen, Turn, after_turn, Acts, with_position, Endpoint, Outcome}
+use Rattle.tftp_lives.proofs.Common.{Phase, Dallying, Act, Took, with_reply, Life, Opens, Hears, Loses, Times, Begins}
+use Rattle.tftp_lives.proofs.Common.{DatagramStep}
+use Rattle.tftp_lives.proofs.StandActions.{Handling}
+use Rattle.tftp_ends.specs.declared.phase.Phase.TheVariants.{Closed}
 use Rattle.tftp_lives.proofs.Stands.{Stands, Goes, Over}
 use Rattle.tftp_lives.proofs.StandsMore.{stands_lost}
 use Rattle.tftp_lives.proofs.OpenEnds.{in_phase_of, still_copied}
@@ -15,6 +16,9 @@ use Rattle.tftp_lives.proofs.StandTimes.{waits}
 -- ---- after a datagram
 module _ {S K : Type 0} (sources : SourceMeaning S) (sinks : SinkMeaning K) (from : Endpoint) (bytes : List ℕ)
     (acts : List Act) (e : EndState) where
+  abbrev handling : Handling S K
+  handling = record { sources = sources; sinks = sinks; e0 = e; from = from; bytes = bytes; acts = acts }
+
   abbrev at : Phase → EndState
   at p = with_position (record e.position { phase = p }) e
 
@@ -31,7 +35,7 @@ module _ {S K : Type 0} (sources : SourceMeaning S) (sinks : SinkMeaning K) (fro
 
     over_goes : (p : Phase) → is_some (outcome_of p) ≡ false → is_complete p ≡ true → Going p
     over_goes (Dallying t n dally) o complete =
-        λ made. dallies_on sources sinks e from bytes acts t n dally d.decoded turn files files' made
+        λ made. dallies_on handling t n dally d.decoded turn files files' made
     over_goes (Closed t n done outcome) o complete = absurd (true≢false o)
     over_goes p o complete = absurd (true≢false (sym complete))
 
@@ -39,7 +43,7 @@ module _ {S K : Type 0} (sources : SourceMeaning S) (sinks : SinkMeaning K) (fro
         Stands (with_reply turn.reply (Took from bytes ∷ acts)) (after_turn e turn)
     hears o (Goes p is k c) =
         goes_in p (in_phase_of e p o is)
-        (λ made. knows_goes sources sinks e from bytes acts p k (still_copied e p o is acts c) d.decoded d.says turn files
+        (λ made. knows_goes handling p k (still_copied e p o is acts c) d.decoded d.says turn files
         files' made)
     hears o (Over (inl complete)) = over_goes e.position.phase o complete d.acts
     hears o (Over (inr closes)) =

@@ -1,17 +1,13 @@
 -- The newest datagram of an end is one that it sent, and what it answers is that one or no OACK. For the law on why a
 -- client ends (tftp_promises).
-use Rattle.std.proofs.Common.{rules}
-use Rattle.tftp_lives.proofs.Common.{◌≡◌, ℕ, false, List, ◌∷◌, Option, Some, None, refl, inl, inr, ◌⊎◌, if◌then◌else◌}
-use Rattle.tftp_lives.proofs.Common.{SinkMeaning, SourceMeaning, Files, Response, Endpoint, Phase, datagram_action}
-use Rattle.tftp_lives.proofs.Common.{EndState, Acts, Reply, Turn, after_turn, response_turn, timeout_turn, Act, Took}
-use Rattle.tftp_lives.proofs.Common.{Said, Timed, Has, Life, Opens, Hears, Loses, Times, newest, with_reply}
-use Rattle.tftp_ends.specs.declared.action.Action.{Action}
-use Rattle.tftp_ends.specs.declared.action.Response.TheVariants.{Accept}
-use Rattle.tftp_ends.specs.declared.error_reply.ErrorReply.TheVariants as replies
-use Rattle.tftp_ends.specs.declared.outcome.Outcome.TheVariants as outcomes
+use Rattle.tftp_lives.proofs.Common.{List, ◌≡◌, ℕ, Some, None, inl, false, ◌∷◌, Option, refl, inr, ◌⊎◌, SinkMeaning}
+use Rattle.tftp_lives.proofs.Common.{SourceMeaning, Files, datagram_action, EndState, Reply, Turn, after_turn, Acts}
+use Rattle.tftp_lives.proofs.Common.{response_turn, timeout_turn, Response, Endpoint, Phase, Act, Took, newest, Said}
+use Rattle.tftp_lives.proofs.Common.{with_reply, Timed, Has, Life, Opens, Hears, Loses, Times, rules, Action, Accept}
+use Rattle.tftp_lives.proofs.Common.{DatagramStep}
 use Rattle.tftp_ends.specs.Action.{timeout_response}
 use Rattle.tftp_ends.specs.Run.{has_opcode}
-use Rattle.tftp_ends.specs.Step.{AcksAgain, DatagramStep}
+use Rattle.tftp_ends.specs.Step.{AcksAgain}
 
 -- an answer that is no OACK, or the newest datagram of the end
 abbrev pub IsPlain : EndState → Option Reply → Type 0

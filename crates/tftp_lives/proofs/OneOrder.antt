@@ -1,10 +1,8 @@
 -- The acts of two ends in one order: where each stands, and how many timeouts there are.
-use Rattle.std.proofs.Common.{rules}
-use Rattle.tftp_lives.proofs.Common.{◌≡◌, ℕ, ◌+◌, ◌≤◌, suc, Bool, true, false, List, [], ◌∷◌, ◌++◌, length, Some, None}
-use Rattle.tftp_lives.proofs.Common.{refl, sym, ap, ◌∙◌, subst, arith, inl, inr, Endpoint, Act, Took, Lost, Said, Timed}
-use Rattle.tftp_lives.proofs.Common.{Has, IsNext, next_of, timed}
-use Rattle.tftp_lives.specs.Lives.{HandlesAll, IsNoLoss, IsReceipt}
-use Rattle.tftp_lives.specs.Outlasting.{OneAct, acts_of, timeouts}
+use Rattle.tftp_lives.proofs.Common.{List, ◌≡◌, ℕ, true, Some, None, inl, false, ◌∷◌, refl, inr, sym, ap, subst, arith}
+use Rattle.tftp_lives.proofs.Common.{◌∙◌, ◌≤◌, Bool, [], ◌+◌, suc, ◌++◌, length, Endpoint, Act, Took, Timed, Has}
+use Rattle.tftp_lives.proofs.Common.{IsNext, next_of, timed, rules, HandlesAll, OneAct, acts_of, timeouts}
+use Rattle.tftp_lives.specs.Lives.{IsNoLoss, IsReceipt}
 use Rattle.tftp_lives.proofs.Stands.{all_has}
 
 -- ---- lists
@@ -116,30 +114,17 @@ placed false ((false, own) ∷ order) later act earlier e = placed_own _ _ _ _ _
 -- ---- timeouts
 pub timeouts_append : (xs ys : List OneAct) → timeouts (xs ++ ys) ≡ timeouts xs + timeouts ys
 timeouts_append [] ys = omega arith
-timeouts_append ((first, Took from bytes) ∷ xs) ys = timeouts_append xs ys
-timeouts_append ((first, Lost from bytes) ∷ xs) ys = timeouts_append xs ys
-timeouts_append ((first, Said to bytes) ∷ xs) ys = timeouts_append xs ys
 timeouts_append ((first, Timed) ∷ xs) ys = let e = timeouts_append xs ys in omega (arith, e)
+timeouts_append ((first, act) ∷ xs) ys = timeouts_append xs ys
 
 -- those of one end are among those of both
 pub timed_few : (first : Bool) (order : List OneAct) → timed (acts_of first order) ≤ timeouts order
 timed_few first [] = omega arith
-timed_few true ((true, Took from bytes) ∷ order) = timed_few true order
-timed_few true ((true, Lost from bytes) ∷ order) = timed_few true order
-timed_few true ((true, Said to bytes) ∷ order) = timed_few true order
 timed_few true ((true, Timed) ∷ order) = let h = timed_few true order in omega (arith, h)
-timed_few true ((false, Took from bytes) ∷ order) = timed_few true order
-timed_few true ((false, Lost from bytes) ∷ order) = timed_few true order
-timed_few true ((false, Said to bytes) ∷ order) = timed_few true order
 timed_few true ((false, Timed) ∷ order) = let h = timed_few true order in omega (arith, h)
-timed_few false ((true, Took from bytes) ∷ order) = timed_few false order
-timed_few false ((true, Lost from bytes) ∷ order) = timed_few false order
-timed_few false ((true, Said to bytes) ∷ order) = timed_few false order
 timed_few false ((true, Timed) ∷ order) = let h = timed_few false order in omega (arith, h)
-timed_few false ((false, Took from bytes) ∷ order) = timed_few false order
-timed_few false ((false, Lost from bytes) ∷ order) = timed_few false order
-timed_few false ((false, Said to bytes) ∷ order) = timed_few false order
 timed_few false ((false, Timed) ∷ order) = let h = timed_few false order in omega (arith, h)
+timed_few first ((who, act) ∷ order) = timed_few first order
 
 -- ---- timeouts of one end
 abbrev pub owns : Bool → List OneAct → ℕ
@@ -147,10 +132,8 @@ owns first order = timed (acts_of first order)
 
 pub timed_append : (xs ys : List Act) → timed (xs ++ ys) ≡ timed xs + timed ys
 timed_append [] ys = omega arith
-timed_append (Took from bytes ∷ xs) ys = timed_append xs ys
-timed_append (Lost from bytes ∷ xs) ys = timed_append xs ys
-timed_append (Said to bytes ∷ xs) ys = timed_append xs ys
 timed_append (Timed ∷ xs) ys = let e = timed_append xs ys in omega (arith, e)
+timed_append (act ∷ xs) ys = timed_append xs ys
 
 pub owns_append : (first : Bool) (xs ys : List OneAct) → owns first (xs ++ ys) ≡ owns first xs + owns first ys
 owns_append first xs ys = ap timed (acts_append first xs ys) ∙ timed_append (acts_of first xs) (acts_of first ys)

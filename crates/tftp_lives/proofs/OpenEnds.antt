@@ -1,11 +1,9 @@
 -- What is known of an end that is open, and how an end is.
-use Rattle.std.proofs.Common.{rules}
-use Rattle.tftp_lives.proofs.Common.{◌≡◌, Bool, true, false, not, List, refl, sym, ap, ◌∙◌, inl, inr, ◌⊎◌, is_some}
-use Rattle.tftp_lives.proofs.Common.{true≢false, Outcome, Phase, EndState, is_complete, outcome_of, closed, IsOpen, Act}
-use Rattle.tftp_lives.proofs.Common.{newest, IsOver}
-use Rattle.tftp_ends.specs.declared.outcome.Outcome.TheVariants as outcomes
-use Rattle.tftp_lives.specs.Outlasting.{GaveUp}
+use Rattle.tftp_lives.proofs.Common.{List, ◌≡◌, true, inl, false, refl, inr, sym, ap, ◌∙◌, Bool, not, true≢false, ◌⊎◌}
+use Rattle.tftp_lives.proofs.Common.{is_some, EndState, outcome_of, is_complete, closed, IsOpen, Phase, Act, newest}
+use Rattle.tftp_lives.proofs.Common.{IsOver, rules, GaveUp}
 use Rattle.tftp_lives.proofs.Stands.{IsCopied, IsIn, Stands, more_of}
+use Rattle.tftp_ends.specs.declared.outcome.Outcome.TheVariants as outcomes
 
 -- ---- an open end
 -- no open end has closed

@@ -1,15 +1,13 @@
 -- An end outlasts a loss that is bounded. For the law an_end_outlasts_loss.
+use Rattle.tftp_lives.proofs.Common.{List, ◌≡◌, ℕ, true, None, inl, false, ◌∷◌, refl, inr, sym, ap, arith, ◌∙◌, ◌≤◌}
+use Rattle.tftp_lives.proofs.Common.{Bool, [], ◌+◌, ◌<◌, ◌++◌, ◌*◌, true≢false, ◌⊎◌, is_some, Spells, canonical, Packet}
+use Rattle.tftp_lives.proofs.Common.{SinkMeaning, SourceMeaning, EndState, is_sender, IsOpen, Endpoint, Act, Took}
+use Rattle.tftp_lives.proofs.Common.{newest, Said, Has, IsNext, next_of, Life, timed, IsOver, AreOpposite, Awaits}
+use Rattle.tftp_lives.proofs.Common.{HasSaid, Begins, rules, GaveUp, HandlesAll, OneAct, acts_of, timeouts}
+use Rattle.tftp_lives.proofs.Common.{IsUnanswered}
 use Rattle.std.proofs.lemmas.Grind.{common_steps}
-use Rattle.tftp_lives.proofs.Common.{◌≡◌, ℕ, ◌+◌, ◌*◌, ◌<◌, ◌≤◌, Bool, true, false, List, [], ◌∷◌, ◌++◌, None, refl}
-use Rattle.tftp_lives.proofs.Common.{sym, ap, ◌∙◌, arith, inl, inr, ◌⊎◌, is_some, true≢false, Spells, canonical, Packet}
-use Rattle.tftp_lives.proofs.Common.{SinkMeaning, SourceMeaning, Endpoint, EndState, is_sender, IsOpen, Act, Took, Said}
-use Rattle.tftp_lives.proofs.Common.{Has, IsNext, Life, newest, next_of, timed, AreOpposite, Awaits, Begins, HasSaid}
-use Rattle.tftp_lives.proofs.Common.{IsOver}
-use Rattle.std.proofs.Common.{append_assoc, rules, arith as std_arith}
-use Rattle.tftp_lives.specs.Lives.{HandlesAll}
-use Rattle.tftp_lives.specs.Outlasting.{OneAct, acts_of, timeouts, AnswersPromptly, ArriveInTime}
-use Rattle.tftp_lives.specs.Outlasting.{EndsOutlastLoss, GaveUp}
-use Rattle.tftp_lives.specs.Unanswered.{IsUnanswered}
+use Rattle.std.proofs.Common.{append_assoc, arith as std_arith}
+use Rattle.tftp_lives.specs.Outlasting.{AnswersPromptly, ArriveInTime, EndsOutlastLoss}
 use Rattle.tftp_lives.proofs.Answering.{ends_answer}
 use Rattle.tftp_lives.proofs.Unanswered.{give_up_unanswered}
 use Rattle.tftp_lives.proofs.LivesStand.{life_stands}

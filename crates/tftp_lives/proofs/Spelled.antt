@@ -1,29 +1,13 @@
 -- What bytes spell: which endpoint they are of, one packet at most, and a valid packet itself.
-use Rattle.tftp_lives.proofs.Common.{◌≡◌, ℕ, ◌≤◌, Bool, true, false, not, List, [], length, Option, Some, Result, refl}
-use Rattle.tftp_lives.proofs.Common.{sym, ◌∙◌, subst, arith, ◌&&◌, true≢false, IsValid, Spells, MAX_BLOCK, Packet, Data}
-use Rattle.tftp_lives.proofs.Common.{Endpoint, Terms, is_wrong_peer, canonical}
-use Rattle.std.proofs.Common.{rules}
+pub use Rattle.std.proofs.lemmas.Bool.{and_parts as both, not-true as not_true, not-false as not_false}
+use Rattle.tftp_lives.proofs.Common.{List, ◌≡◌, ℕ, true, Some, false, refl, sym, subst, arith, ◌∙◌, ◌≤◌, Bool, length}
+use Rattle.tftp_lives.proofs.Common.{true≢false, Spells, canonical, IsValid, MAX_BLOCK, Packet, Data, is_wrong_peer}
+use Rattle.tftp_lives.proofs.Common.{Endpoint, Terms, rules}
 use Rattle.std.specs.Str.{str_to_ascii_lowercase}
 use Rattle.tftp_wire.specs.Spelling.{word_of}
 use Rattle.tftp_wire.proofs.SpellingLemmas.{one_meaning}
-use Rattle.tftp_file.specs.Source.{Fills}
-use Rattle.tftp_file.specs.declared.fault.FileFault.{FileFault}
-use Rattle.tftp_file.specs.declared.fault.FileFault.TheVariants as file_faults
 use Rattle.tftp_ends.specs.Action.{same_endpoint}
 use Rattle.tftp_ends.proofs.RowLemmas.{own_peer}
-
--- ---- tests
-pub both : (a b : Bool) → (a && b) ≡ true → (a ≡ true) × (b ≡ true)
-both true b e = (refl, e)
-both false b e = absurd (true≢false (sym e))
-
-pub not_true : (b : Bool) → not b ≡ true → b ≡ false
-not_true true e = absurd (true≢false (sym e))
-not_true false e = refl
-
-pub not_false : (b : Bool) → not b ≡ false → b ≡ true
-not_false true e = refl
-not_false false e = absurd (true≢false e)
 
 endpoint : List ℕ → ℕ → Endpoint
 endpoint ip port = record { ip = ip; port = port }
@@ -54,11 +38,6 @@ pub spelled : (p : Packet) → IsValid p → Spells p (canonical p)
 spelled p valid = record { valid = valid; word = word_of p; mode = lower_word p; whole = refl }
 
 -- ---- what can be read
--- a fill gives no more bytes than were requested
-pub gives_few : (before after : Option (List ℕ)) (want : ℕ) (piece : List ℕ) (answer : Result ℕ FileFault) →
-    Fills before after want [] piece answer → length piece ≤ want
-gives_few before after want piece answer f = search rules
-
 -- a block with a number that is not too long
 pub valid_block : (m : ℕ) (piece : List ℕ) → 1 ≤ m → m ≤ 65535 → length piece ≤ MAX_BLOCK → IsValid (Data m piece)
 valid_block m piece low high short = (λ none. absurd (omega (arith, low, none)), omega (arith, high), short)

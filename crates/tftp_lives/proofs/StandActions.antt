@@ -1,36 +1,41 @@
 -- How an end stands once it carried out an action on a datagram that it handled.
-use Rattle.std.proofs.Common.{rules}
-use Rattle.tftp_lives.proofs.Common.{◌≡◌, ℕ, ◌<◌, ◌≤◌, Bool, true, false, List, [], ◌∷◌, length, Option, Some, None}
-use Rattle.tftp_lives.proofs.Common.{Result, Ok, Err, refl, sym, ap, ◌∙◌, subst, arith, inl, inr, ◌==◌, ◌&&◌, nat_lt}
-use Rattle.tftp_lives.proofs.Common.{if◌then◌else◌, IsValid, MAX_BLOCK, Spells, canonical, Packet, Data, Ack}
-use Rattle.tftp_lives.proofs.Common.{SourceMeaning, SinkMeaning, Files, Respond, Send, Response, Ignore, WrongPeer}
-use Rattle.tftp_lives.proofs.Common.{ResendReply, Close, Refuse, Endpoint, Outcome, Phase, Sending, Receiving, Terms}
-use Rattle.tftp_lives.proofs.Common.{EndState, is_sender, is_client, Turn, Acts, after_turn, with_position}
-use Rattle.tftp_lives.proofs.Common.{response_turn, ack_bytes, data_bytes, if_either, Act, Took, Said, Has, with_reply}
-use Rattle.tftp_lives.proofs.Common.{IsOther}
-use Rattle.std.proofs.lemmas.Bool.{cases_eq}
-use Rattle.tftp_wire.specs.declared.mode.Mode.{Mode}
+use Rattle.tftp_lives.proofs.Common.{List, ◌≡◌, ℕ, true, Some, None, inl, false, ◌∷◌, Option, refl, inr, sym, ap, subst}
+use Rattle.tftp_lives.proofs.Common.{arith, ◌∙◌, ◌≤◌, Bool, ◌<◌, Result, Ok, Err, length, if◌then◌else◌, Spells}
+use Rattle.tftp_lives.proofs.Common.{canonical, IsValid, MAX_BLOCK, Packet, Data, Ack, SinkMeaning, SourceMeaning}
+use Rattle.tftp_lives.proofs.Common.{Files, if_either, EndState, is_sender, is_client, Turn, after_turn, Acts}
+use Rattle.tftp_lives.proofs.Common.{with_position, response_turn, ack_bytes, Respond, Response, Ignore, WrongPeer}
+use Rattle.tftp_lives.proofs.Common.{Close, Endpoint, Outcome, Phase, Receiving, Sending, Terms, Act, Took, Said}
+use Rattle.tftp_lives.proofs.Common.{with_reply, Has, rules, cases_eq, Mode, Action, is_progress}
+use Rattle.tftp_ends.specs.declared.action.Action.TheVariants.{Send, Store}
+use Rattle.tftp_ends.specs.declared.action.Response.TheVariants.{ResendReply, Refuse}
+use Rattle.tftp_ends.specs.Step.{data_bytes, Done, GoesOn, Sends, refused_turn, sent_turn, committed_turn, holding}
+use Rattle.tftp_ends.specs.Step.{block_length, result_count_is}
+use Rattle.tftp_lives.specs.Unanswered.{IsOther}
 use Rattle.tftp_file.specs.declared.fault.StoreFault.{StoreFault}
 use Rattle.tftp_file.specs.declared.files.Files.TheVariants.{Source, Sink}
-use Rattle.tftp_ends.specs.declared.action.Action.{Action}
-use Rattle.tftp_ends.specs.declared.action.Action.TheVariants.{Store}
 use Rattle.tftp_ends.specs.declared.error_reply.ErrorReply.{ErrorReply}
-use Rattle.tftp_ends.specs.declared.error_reply.ErrorReply.TheVariants as replies
-use Rattle.tftp_ends.specs.declared.outcome.Outcome.TheVariants as outcomes
-use Rattle.tftp_ends.specs.End.{is_progress}
 use Rattle.tftp_ends.specs.Receiver.{next_action}
 use Rattle.tftp_ends.specs.Sender.{illegal_action}
-use Rattle.tftp_ends.specs.Step.{Done, GoesOn, Sends}
-use Rattle.tftp_ends.specs.Step.{refused_turn, sent_turn, committed_turn, holding}
-use Rattle.tftp_ends.specs.Step.{block_length, result_count_is}
-use Rattle.tftp_ends.specs.Text.{is_readable}
 use Rattle.tftp_lives.proofs.Spelled.{spelled, valid_block}
-use Rattle.tftp_lives.proofs.Stands.{AllDue, Among, CanNumber, Counts, IsAnswered, IsCopied, SaidSo, Says, SentBy, Stands}
-use Rattle.tftp_lives.proofs.Stands.{Goes, Over, TalksSo, due_more, due_weaker, said_weaker}
-use Rattle.tftp_lives.proofs.StandsMore.{stands_more}
+use Rattle.tftp_lives.proofs.Stands.{AllDue, Among, CanNumber, Counts, IsAnswered, IsCopied, SaidSo, Says, SentBy}
+use Rattle.tftp_lives.proofs.Stands.{Stands, Goes, Over, TalksSo, due_more, due_weaker, said_weaker}
+use Rattle.tftp_lives.proofs.StandsMore.{copied_first, stands_more}
+use Rattle.tftp_ends.specs.declared.error_reply.ErrorReply.TheVariants as replies
+use Rattle.tftp_ends.specs.declared.outcome.Outcome.TheVariants as outcomes
 
--- ---- a datagram of its peer takes an end to its next number
-module _ (e0 : EndState) (from : Endpoint) (bytes : List ℕ) (acts : List Act) where
+-- an end handles a datagram: it works on such files, is this one but for its phase, and has done this before
+pub record Handling (S K : Type 0) : Type 1 where
+  pub sources : SourceMeaning S
+  pub sinks : SinkMeaning K
+  pub e0 : EndState
+  pub from : Endpoint
+  pub bytes : List ℕ
+  pub acts : List Act
+
+module _ {S K : Type 0} (v : Handling S K) where
+  open v use {sources, sinks, e0, from, bytes, acts}
+
+  -- ---- a datagram of its peer takes an end to its next number
   -- what is known of an end in a phase when it goes on to this number
   pub record Onward (p : Phase) (phase : Phase) (t : Terms) (m : ℕ) (sends : Bool) : Type 0 where
     pub own : from ≡ t.peer
@@ -76,9 +81,7 @@ module _ (e0 : EndState) (from : Endpoint) (bytes : List ℕ) (acts : List Act) 
       );
     }
 
--- ---- an end that handles a datagram, by its phase
-module _ {S K : Type 0} (sources : SourceMeaning S) (sinks : SinkMeaning K) (e0 : EndState) (from : Endpoint)
-    (bytes : List ℕ) (acts : List Act) where
+  -- ---- an end that handles a datagram, by its phase
   -- the end in a phase
   abbrev pub at : Phase → EndState
   at p = with_position (record e0.position { phase = p }) e0
@@ -130,25 +133,16 @@ module _ {S K : Type 0} (sources : SourceMeaning S) (sinks : SinkMeaning K) (e0 
       left ≡ (if is_progress p q then e0.role.retries else e0.position.retries_left) →
       IsCopied (last ∷ now) last e0.role.retries left 0
   copied_once p q last left progress is =
-      let all = is ∙ ap (λ (b : Bool). if b then e0.role.retries else e0.position.retries_left) progress in
-      record {
-        count = 1;
-        copies = inl (refl, tt);
-        enough = omega (arith, all);
-        later = [];
-        earlier = now;
-        is = refl;
-        timeouts = omega (arith, all);
-      }
+      copied_first last now _ left (is ∙ ap (λ (b : Bool). if b then e0.role.retries else e0.position.retries_left) progress)
 
   module _ (p : Phase) (t : Terms) (m : ℕ) where
-    module _ (o : Onward e0 from bytes acts p (Sending t m) t m true) (low : 1 ≤ m) (high : m ≤ 65535) where
+    module _ (o : Onward p (Sending t m) t m true) (low : 1 ≤ m) (high : m ≤ 65535) where
       filled : (piece : List ℕ) → length piece ≤ MAX_BLOCK → (b : Bool) → After (at p)
           (if b then sent_turn (Sending t m) from (data_bytes m piece) (at p)
           else refused_turn t replies.FileChanged outcomes.SourceFault from (at p))
       filled piece short true =
           Goes (Sending t m) (inl refl)
-          (talks_now e0 from bytes acts p (Sending t m) t m true o (Data m piece) refl
+          (talks_now p (Sending t m) t m true o (Data m piece) refl
           (spelled (Data m piece) (valid_block m piece low high short)))
           (copied_once p (Sending t m) (Said from (data_bytes m piece)) _ o.progress refl)
       filled piece short false = Over (inr (outcomes.SourceFault, refl, tt))
@@ -166,11 +160,11 @@ module _ {S K : Type 0} (sources : SourceMeaning S) (sinks : SinkMeaning K) (e0 
       sends turn (Sink sink) (Source source') h = absurd h
       sends turn (Sink sink) (Sink sink') h = absurd h
 
-    module _ (o : Onward e0 from bytes acts p (Receiving t m) t m false) (numbered : IsValid (Ack m)) where
+    module _ (o : Onward p (Receiving t m) t m false) (numbered : IsValid (Ack m)) where
       stored_so : (held : List ℕ) → After (at p) (sent_turn (Receiving t m) from (ack_bytes m) (holding held (at p)))
       stored_so held =
           Goes (Receiving t m) (inl refl)
-          (talks_now e0 from bytes acts p (Receiving t m) t m false o (Ack m) refl (spelled (Ack m) numbered))
+          (talks_now p (Receiving t m) t m false o (Ack m) refl (spelled (Ack m) numbered))
           (copied_once p (Receiving t m) (Said from (ack_bytes m)) _ o.progress refl)
 
       committed : (held : List ℕ) (answer : Result Done StoreFault) →
@@ -189,21 +183,10 @@ module _ {S K : Type 0} (sources : SourceMeaning S) (sinks : SinkMeaning K) (e0 
       stores turn (Sink sink) (Sink sink') h = stored _ _ _ _ _ _ h.2.rest
       stores turn h1 h2 h = absurd h.2
 
+      -- of two actions, whichever is carried out
+      either : (b : Bool) (r s : Action) → Going p r → Going p s → Going p (if b then r else s)
+      either b r s h k = if_either (Going p) b r s (λ _. h) (λ _. k)
+
       -- the next block, if it is one of this transfer
       pub next_goes : (mode : Mode) (held : List ℕ) (piece : List ℕ) → Going p (next_action mode held t m piece)
-      next_goes mode held piece =
-          let P = Going p in
-          let last = nat_lt (length piece) t.size in
-          let storing =
-          if is_readable mode held piece last then Store t m
-          else Respond (Refuse (Some t) replies.NotNetascii outcomes.NotNetascii) in
-          let fitting =
-          if m == 65535 && (length piece == t.size)
-          then Respond (Refuse (Some t) replies.FileTooLarge outcomes.TooLarge) else storing in
-          if_either P (nat_lt t.size (length piece)) (illegal_action t) fitting (λ _. illegal p t)
-          (λ _. if_either P (m == 65535 && (length piece == t.size))
-          (Respond (Refuse (Some t) replies.FileTooLarge outcomes.TooLarge)) storing
-          (λ _. refuses p (Some t) replies.FileTooLarge outcomes.TooLarge tt)
-          (λ _. if_either P (is_readable mode held piece last) (Store t m)
-          (Respond (Refuse (Some t) replies.NotNetascii outcomes.NotNetascii)) (λ _. stores)
-          (λ _. refuses p (Some t) replies.NotNetascii outcomes.NotNetascii tt)))
+      next_goes mode held piece = search (rules, either, illegal, refuses, stores)

@@ -1,36 +1,32 @@
 -- How a client stands after the first answer to its request.
-use Rattle.std.proofs.Common.{rules}
-use Rattle.tftp_lives.proofs.Common.{◌≡◌, ℕ, ◌*◌, ◌<◌, ◌≤◌, Bool, true, false, List, [], ◌∷◌, length, Option, Some}
-use Rattle.tftp_lives.proofs.Common.{None, Result, Ok, Err, refl, sym, ap, ◌∙◌, arith, inl, ◌==◌, ◌&&◌, nat_lt}
-use Rattle.tftp_lives.proofs.Common.{AllByRecursion, true≢false, eqb-true, Spells, MAX_BLOCK, Packet, Data, Ack, Error}
-use Rattle.tftp_lives.proofs.Common.{Oack, Asked, IsAskable, SourceMeaning, SinkMeaning, Respond, Send, Refuse}
-use Rattle.tftp_lives.proofs.Common.{Endpoint, Phase, Waiting, Receiving, Terms, Decodes, is_wrong_peer, same_address}
-use Rattle.tftp_lives.proofs.Common.{EndState, is_sender, is_client, ack_bytes, if_either, Act, Took, Said, newest}
+use Rattle.tftp_lives.proofs.Common.{List, ◌≡◌, ℕ, true, Some, None, inl, false, ◌∷◌, Option, refl, sym, ap, arith, ◌∙◌}
+use Rattle.tftp_lives.proofs.Common.{◌≤◌, Bool, [], ◌<◌, Result, Ok, Err, length, ◌*◌, true≢false, eqb-true}
+use Rattle.tftp_lives.proofs.Common.{AllByRecursion, ◌==◌, ◌&&◌, nat_lt, Spells, MAX_BLOCK, Packet, Data, Ack, Oack}
+use Rattle.tftp_lives.proofs.Common.{Error, IsAskable, Asked, if_either, is_wrong_peer, same_address, Decodes}
+use Rattle.tftp_lives.proofs.Common.{is_sender, is_client, ack_bytes, Phase, Receiving, Waiting, Terms, Act, Took}
+use Rattle.tftp_lives.proofs.Common.{newest, Said, rules, receiver_action, Action, Known, size, agreed_terms}
+use Rattle.tftp_lives.proofs.Common.{default_terms, packet_action, Accept}
 use Rattle.std.specs.Prelude.{nat_le}
 use Rattle.tftp_wire.specs.declared.options.RawOption.{RawOption}
-use Rattle.tftp_negotiate.specs.declared.known.Kind.TheVariants as kinds
-use Rattle.tftp_negotiate.specs.declared.known.Known.{Known}
 use Rattle.tftp_negotiate.specs.declared.limits.TheConstants.{DEFAULT_BLOCK}
 use Rattle.tftp_negotiate.specs.declared.refusal.Refusal.{Refusal}
-use Rattle.tftp_negotiate.specs.declared.refusal.Refusal.TheVariants as refusals
-use Rattle.tftp_negotiate.specs.Agreed.{size}
 use Rattle.tftp_negotiate.specs.Agreement.{agreement}
 use Rattle.tftp_negotiate.proofs.LawsLemmas.{agreements_have_block_sizes, taken_may_be_agreed}
-use Rattle.tftp_ends.specs.declared.action.Response.TheVariants.{Accept}
-use Rattle.tftp_ends.specs.declared.error_reply.ErrorReply.TheVariants as replies
-use Rattle.tftp_ends.specs.declared.outcome.Outcome.TheVariants as outcomes
-use Rattle.tftp_ends.specs.Action.{packet_action}
-use Rattle.tftp_ends.specs.Receiver.{receiver_action}
 use Rattle.tftp_ends.specs.Waiting.{reader_action, writer_action, accept_action, begin_action, begin_with_action}
-use Rattle.tftp_ends.specs.Waiting.{refusal_action, default_terms, agreed_terms, no_answer}
+use Rattle.tftp_ends.specs.Waiting.{refusal_action, no_answer}
 use Rattle.tftp_lives.proofs.Spelled.{both, not_true, only_this, spelled}
 use Rattle.tftp_lives.proofs.Stands.{AllDue, Counts, IsAnswered, IsCopied, NotFrom, Stands, Goes}
 use Rattle.tftp_lives.proofs.StandsMore.{copied_on}
-use Rattle.tftp_lives.proofs.StandActions.{Going, at, copied_once, gone, next_goes}
-use Rattle.tftp_lives.proofs.StandActions.{refuses, responds, sends, talks_now}
+use Rattle.tftp_lives.proofs.StandActions.{Handling, Going, at, copied_once, gone, next_goes, refuses, responds, sends}
+use Rattle.tftp_lives.proofs.StandActions.{talks_now}
+use Rattle.tftp_negotiate.specs.declared.known.Kind.TheVariants as kinds
+use Rattle.tftp_negotiate.specs.declared.refusal.Refusal.TheVariants as refusals
+use Rattle.tftp_ends.specs.declared.error_reply.ErrorReply.TheVariants as replies
+use Rattle.tftp_ends.specs.declared.outcome.Outcome.TheVariants as outcomes
 
-module _ {S K : Type 0} (sources : SourceMeaning S) (sinks : SinkMeaning K) (e0 : EndState) (from : Endpoint)
-    (bytes : List ℕ) (acts : List Act) where
+module _ {S K : Type 0} (v : Handling S K) where
+  open v use {e0, from, bytes, acts}
+
   -- ---- a client that waits
   module _ (asked : Asked) (limit : ℕ) (client : is_client e0.role.side ≡ true) (askable : IsAskable asked)
       (none : AllByRecursion (NotFrom e0.position.last_sent_to) acts)
@@ -38,19 +34,20 @@ module _ {S K : Type 0} (sources : SourceMeaning S) (sinks : SinkMeaning K) (e0 
     abbrev waiting : Phase
     waiting = Waiting asked limit
 
+    abbrev Ends : Action → Type 0
+    Ends action = Going v waiting action
+
     pub asks_other : is_wrong_peer None e0.position.last_sent_to from ≡ true →
-        Stands (Took from bytes ∷ acts) (at sources sinks e0 from bytes acts waiting)
+        Stands (Took from bytes ∷ acts) (at v waiting)
     asks_other wrong =
         Goes waiting (inl refl) (client, askable, (not_true _ wrong, none)) (copied_on (Took from bytes) _ _ _ _ 0 c)
 
-    no_answer_goes : Going sources sinks e0 from bytes acts waiting no_answer
-    no_answer_goes = refuses sources sinks e0 from bytes acts waiting None replies.IllegalOperation outcomes.Illegal tt
+    no_answer_goes : Ends no_answer
+    no_answer_goes = refuses v waiting None replies.IllegalOperation outcomes.Illegal tt
 
-    refusal_goes : (refusal : Refusal) → Going sources sinks e0 from bytes acts waiting (refusal_action refusal)
-    refusal_goes refusals.Repeated = refuses sources sinks e0 from bytes acts waiting None replies.OptionRefused _ tt
-    refusal_goes refusals.TooLarge = refuses sources sinks e0 from bytes acts waiting None replies.DiskFull _ tt
-    refusal_goes refusals.NotAsked = refuses sources sinks e0 from bytes acts waiting None replies.OptionRefused _ tt
-    refusal_goes refusals.BadValue = refuses sources sinks e0 from bytes acts waiting None replies.OptionRefused _ tt
+    refusal_goes : (refusal : Refusal) → Ends (refusal_action refusal)
+    refusal_goes refusals.TooLarge = refuses v waiting None replies.DiskFull _ tt
+    refusal_goes refusal = refuses v waiting None replies.OptionRefused _ tt
 
     module _ (here : same_address e0.position.last_sent_to from ≡ true) where
       -- nothing was handled of a peer that is there, and nothing is due
@@ -72,11 +69,9 @@ module _ {S K : Type 0} (sources : SourceMeaning S) (sinks : SinkMeaning K) (e0 
       -- a writer
       begin_goes : (t : Terms) → t.peer ≡ from → t.size ≤ MAX_BLOCK → is_sender e0.role.side ≡ true →
           ((q : Packet) → Spells q bytes → IsAnswered e0.role.side t true 1 q) →
-          Going sources sinks e0 from bytes acts waiting (begin_action e0.role.length t)
+          Ends (begin_action e0.role.length t)
       begin_goes t peer sized side heard =
-          if_either (Going sources sinks e0 from bytes acts waiting) (nat_lt e0.role.length (65535 * t.size)) (Send t 1)
-          (Respond (Refuse None replies.FileTooLarge outcomes.TooLarge)) (λ fits. sends sources sinks e0 from bytes acts
-          waiting t 1 (record {
+          if_either Ends (nat_lt e0.role.length (65535 * t.size)) _ _ (λ fits. sends v waiting t 1 (record {
             own = sym peer;
             side = side;
             progress = refl;
@@ -84,26 +79,25 @@ module _ {S K : Type 0} (sources : SourceMeaning S) (sinks : SinkMeaning K) (e0 
             heard = heard;
             sent = λ j counts few. nothing_said t true j (λ no. absurd (true≢false no)) counts few;
             due = nothing_due t true 1 peer None acts none;
-          }) (omega arith) (omega arith)) (λ _. refuses sources sinks e0 from bytes acts waiting None
+          }) (omega arith) (omega arith)) (λ _. refuses v waiting None
           replies.FileTooLarge outcomes.TooLarge tt)
 
       begin_with_goes : is_sender e0.role.side ≡ true →
           ((t : Terms) (q : Packet) → Spells q bytes → IsAnswered e0.role.side t true 1 q) →
           (answer : Result (List Known) Refusal) → ((agreed : List Known) → answer ≡ Ok agreed → size agreed ≤ MAX_BLOCK) →
-          Going sources sinks e0 from bytes acts waiting (begin_with_action from e0.role.length answer)
+          Ends (begin_with_action from e0.role.length answer)
       begin_with_goes side heard (Ok agreed) sized = search (rules, begin_goes)
       begin_with_goes side heard (Err refusal) sized = refusal_goes refusal
 
       writer_goes : is_sender e0.role.side ≡ true → (decoded : Option Packet) → Decodes bytes decoded →
-          Going sources sinks e0 from bytes acts waiting (writer_action e0.role.mode asked limit e0.role.length from decoded)
+          Ends (writer_action e0.role.mode asked limit e0.role.length from decoded)
       writer_goes side (Some (Ack number)) d =
-          if_either (Going sources sinks e0 from bytes acts waiting) (number == 0) (begin_action e0.role.length (default_terms from)) no_answer
-          (λ zero_is. let none_yet = eqb-true number 0 zero_is in
+          if_either Ends (number == 0) _ _ (λ zero_is. let none_yet = eqb-true number 0 zero_is in
           begin_goes (default_terms from) refl (omega arith) side
           (only_this (IsAnswered e0.role.side (default_terms from) true 1) (Ack number) bytes d
           (omega (arith, none_yet), inl (omega arith))))
           (λ _. no_answer_goes)
-      writer_goes side (Some (Error code text)) d = gone sources sinks e0 from bytes acts waiting (outcomes.PeerError code) tt
+      writer_goes side (Some (Error code text)) d = gone v waiting (outcomes.PeerError code) tt
       writer_goes side (Some (Oack options)) d =
           begin_with_goes side
           (λ t. only_this (IsAnswered e0.role.side t true 1) (Oack options) bytes d (omega arith, inl (omega arith)))
@@ -114,11 +108,10 @@ module _ {S K : Type 0} (sources : SourceMeaning S) (sinks : SinkMeaning K) (e0 
 
       -- a reader
       accept_goes : is_sender e0.role.side ≡ false → (options : List RawOption) → Spells (Oack options) bytes →
-          (answer : Result (List Known) Refusal) → Going sources sinks e0 from bytes acts waiting (accept_action from answer)
+          (answer : Result (List Known) Refusal) → Ends (accept_action from answer)
       accept_goes side options d (Ok agreed) =
           let t = agreed_terms from agreed in
-          responds sources sinks e0 from bytes acts waiting (Accept t) (Goes (Receiving t 0) (inl refl) (talks_now e0
-          from bytes acts waiting (Receiving t 0) t 0 false (record {
+          responds v waiting (Accept t) (Goes (Receiving t 0) (inl refl) (talks_now v waiting (Receiving t 0) t 0 false (record {
             own = refl;
             side = side;
             progress = refl;
@@ -126,15 +119,15 @@ module _ {S K : Type 0} (sources : SourceMeaning S) (sinks : SinkMeaning K) (e0 
             heard = search rules;
             sent = λ j counts few. absurd (omega (arith, few));
             due = nothing_due t false 0 refl None acts none;
-          }) (Ack 0) refl (spelled (Ack 0) (omega arith))) (copied_once sources sinks e0 from bytes acts waiting
+          }) (Ack 0) refl (spelled (Ack 0) (omega arith))) (copied_once v waiting
           (Receiving t 0) (Said from (ack_bytes 0)) _ refl refl))
       accept_goes side options d (Err refusal) = refusal_goes refusal
 
       first_goes : is_sender e0.role.side ≡ false → (piece : List ℕ) → Spells (Data 1 piece) bytes →
-          Going sources sinks e0 from bytes acts waiting (receiver_action true e0.role.mode [] (default_terms from) 0 (Some (Data 1 piece)))
+          Ends (receiver_action true e0.role.mode [] (default_terms from) 0 (Some (Data 1 piece)))
       first_goes side piece d =
           let t = default_terms from in
-          next_goes sources sinks e0 from bytes acts waiting t 1 (record {
+          next_goes v waiting t 1 (record {
             own = refl;
             side = side;
             progress = refl;
@@ -146,26 +139,21 @@ module _ {S K : Type 0} (sources : SourceMeaning S) (sinks : SinkMeaning K) (e0 
 
       data_first : is_sender e0.role.side ≡ false → (number : ℕ) (piece : List ℕ) → number ≡ 1 →
           Spells (Data number piece) bytes →
-          Going sources sinks e0 from bytes acts waiting (receiver_action true e0.role.mode [] (default_terms from) 0 (Some (Data number piece)))
+          Ends (receiver_action true e0.role.mode [] (default_terms from) 0 (Some (Data number piece)))
       data_first side number piece is = rw (is) (first_goes side piece)
 
       reader_goes : is_sender e0.role.side ≡ false → (decoded : Option Packet) → Decodes bytes decoded →
-          Going sources sinks e0 from bytes acts waiting (reader_action e0.role.mode asked limit from decoded)
+          Ends (reader_action e0.role.mode asked limit from decoded)
       reader_goes side (Some (Data number piece)) d =
-          if_either (Going sources sinks e0 from bytes acts waiting) (number == 1 && nat_le (length piece) DEFAULT_BLOCK)
-          (receiver_action true e0.role.mode [] (default_terms from) 0 (Some (Data number piece))) no_answer
-          (λ fits. data_first side number piece
+          if_either Ends (number == 1 && nat_le (length piece) DEFAULT_BLOCK) _ _ (λ fits. data_first side number piece
           (eqb-true number 1 (both (number == 1) (nat_le (length piece) DEFAULT_BLOCK) fits).0) d)
           (λ _. no_answer_goes)
-      reader_goes side (Some (Error code text)) d = gone sources sinks e0 from bytes acts waiting (outcomes.PeerError code) tt
+      reader_goes side (Some (Error code text)) d = gone v waiting (outcomes.PeerError code) tt
       reader_goes side (Some (Oack options)) d =
           accept_goes side options d (agreement asked kinds.Read e0.role.mode options limit)
       reader_goes side decoded d = no_answer_goes
 
       pub waiting_goes : (decoded : Option Packet) → Decodes bytes decoded →
-          Going sources sinks e0 from bytes acts waiting (packet_action (at sources sinks e0 from bytes acts waiting) from decoded waiting)
+          Ends (packet_action (at v waiting) from decoded waiting)
       waiting_goes decoded d =
-          if_either (Going sources sinks e0 from bytes acts waiting) (is_sender e0.role.side)
-          (writer_action e0.role.mode asked limit e0.role.length from decoded)
-          (reader_action e0.role.mode asked limit from decoded) (λ s. writer_goes s decoded d)
-          (λ s. reader_goes s decoded d)
+          if_either Ends (is_sender e0.role.side) _ _ (λ s. writer_goes s decoded d) (λ s. reader_goes s decoded d)

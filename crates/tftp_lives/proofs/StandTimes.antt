@@ -1,18 +1,16 @@
 -- How an open end stands after a timeout.
-use Rattle.std.proofs.Common.{rules}
-use Rattle.tftp_lives.proofs.Common.{◌≡◌, suc, true, false, List, ◌∷◌, Option, Some, None, refl, sym, ap, ◌∙◌, subst}
-use Rattle.tftp_lives.proofs.Common.{arith, inl, inr, ◌==◌, if◌then◌else◌, is_some, true≢false, Bool, Close, Outcome}
-use Rattle.tftp_lives.proofs.Common.{Phase, Waiting, Sending, Receiving, EndState, is_complete, outcome_of, closed}
-use Rattle.tftp_lives.proofs.Common.{IsOpen, Reply, Turn, after_turn, response_turn, timeout_turn, with_position, Act}
-use Rattle.tftp_lives.proofs.Common.{Timed, newest, with_reply}
-use Rattle.std.proofs.lemmas.Bool.{cases_eq, eq-eqb, ne_eqb}
+use Rattle.tftp_lives.proofs.Common.{List, ◌≡◌, true, Some, None, inl, false, ◌∷◌, Option, refl, inr, sym, ap, subst}
+use Rattle.tftp_lives.proofs.Common.{arith, ◌∙◌, Bool, suc, true≢false, ◌==◌, if◌then◌else◌, is_some, EndState}
+use Rattle.tftp_lives.proofs.Common.{outcome_of, is_complete, closed, IsOpen, Reply, Turn, after_turn, with_position}
+use Rattle.tftp_lives.proofs.Common.{response_turn, timeout_turn, Close, Outcome, Phase, Receiving, Sending, Waiting}
+use Rattle.tftp_lives.proofs.Common.{Act, newest, with_reply, Timed, rules, cases_eq, is_progress}
+use Rattle.std.proofs.lemmas.Bool.{eq-eqb, ne_eqb}
 use Rattle.tftp_ends.specs.declared.action.Response.TheVariants.{Retransmit}
-use Rattle.tftp_ends.specs.declared.outcome.Outcome.TheVariants as outcomes
-use Rattle.tftp_ends.specs.End.{is_progress}
 use Rattle.tftp_ends.proofs.RunMoves.{not_below_itself}
 use Rattle.tftp_lives.proofs.Stands.{IsCopied, Knows, Stands, Goes, Over, copies_on}
 use Rattle.tftp_lives.proofs.StandsMore.{knows_on}
 use Rattle.tftp_lives.proofs.OpenEnds.{in_phase_of, still_copied}
+use Rattle.tftp_ends.specs.declared.outcome.Outcome.TheVariants as outcomes
 
 -- ---- after a timeout
 module _ (acts : List Act) (e : EndState) where

@@ -1,12 +1,12 @@
 -- How an end stands between two steps, by what it has heard and sent.
-use Rattle.tftp_lives.proofs.Common.{◌≡◌, ℕ, ◌+◌, ◌*◌, ◌<◌, ◌≤◌, suc, Bool, true, false, List, [], ◌∷◌, Option, Some}
-use Rattle.tftp_lives.proofs.Common.{None, ◌++◌, subst, inl, inr, ◌⊎◌, AllByRecursion, Spells, canonical, Packet}
-use Rattle.tftp_lives.proofs.Common.{MAX_BLOCK, Data, Ack, Oack, IsAskable, Endpoint, Phase, Waiting, Sending}
-use Rattle.tftp_lives.proofs.Common.{Receiving, Terms, Side, Role, same_address, EndState, is_client, is_sender, closed}
-use Rattle.tftp_lives.proofs.Common.{Reply, Act, Took, Said, Has, IsNext, newest, next_of, timed, with_reply, IsOver}
-use Rattle.std.proofs.Common.{zero, rules}
+use Rattle.tftp_lives.proofs.Common.{List, ◌≡◌, ℕ, true, Some, None, inl, false, ◌∷◌, Option, inr, subst, ◌≤◌, Bool, []}
+use Rattle.tftp_lives.proofs.Common.{◌+◌, ◌<◌, suc, ◌++◌, ◌*◌, AllByRecursion, ◌⊎◌, Spells, canonical, MAX_BLOCK}
+use Rattle.tftp_lives.proofs.Common.{Packet, Data, Ack, Oack, IsAskable, same_address, EndState, is_sender, is_client}
+use Rattle.tftp_lives.proofs.Common.{closed, Reply, Endpoint, Phase, Receiving, Sending, Waiting, Terms, Role, Act}
+use Rattle.tftp_lives.proofs.Common.{Took, newest, Said, with_reply, Has, IsNext, next_of, timed, IsOver, rules, zero}
+use Rattle.tftp_lives.proofs.Common.{HasCopies}
+use Rattle.tftp_ends.specs.declared.side.Side.{Side}
 use Rattle.tftp_ends.specs.declared.outcome.Outcome.TheVariants as outcomes
-use Rattle.tftp_lives.specs.Lives.{HasCopies}
 
 -- ---- lists
 pub all_has : {T : Type 0} (P : T → Type 0) (xs : List T) (x : T) → AllByRecursion P xs → Has x xs → P x

@@ -1,11 +1,24 @@
 -- An end stands as it did once more was done that is nothing new to it.
-use Rattle.std.proofs.Common.{rules}
-use Rattle.tftp_lives.proofs.Common.{ℕ, ◌≤◌, Bool, true, false, List, ◌∷◌, Option, Some, None, ap, arith, inl, inr}
-use Rattle.tftp_lives.proofs.Common.{Endpoint, Phase, Waiting, Sending, Receiving, Terms, Role, EndState, Packet, Reply}
-use Rattle.tftp_lives.proofs.Common.{Act, Lost, Said, with_reply}
+use Rattle.tftp_lives.proofs.Common.{List, ◌≡◌, ℕ, true, Some, None, inl, false, ◌∷◌, Option, refl, inr, ap, arith, ◌≤◌}
+use Rattle.tftp_lives.proofs.Common.{Bool, [], Packet, EndState, Reply, Endpoint, Phase, Receiving, Sending, Waiting}
+use Rattle.tftp_lives.proofs.Common.{Terms, Role, Act, Said, with_reply, rules}
+use Rattle.tftp_lives.specs.Lives.{Lost}
 use Rattle.tftp_lives.proofs.Stands.{Among, Counts, Heard, IsAnswered, IsCopied, IsDue, Knows, NotFrom, SaidSo, SentBy}
 use Rattle.tftp_lives.proofs.Stands.{Stands, Goes, Over, TalksSo, copies_on, due_more, due_weaker, heard_weaker}
 use Rattle.tftp_lives.proofs.Stands.{said_weaker, timed_on}
+
+-- a new datagram was sent once
+pub copied_first : (last : Act) (acts : List Act) (retries left : ℕ) → left ≡ retries →
+    IsCopied (last ∷ acts) last retries left 0
+copied_first last acts retries left all = record {
+  count = 1;
+  copies = inl (refl, tt);
+  enough = omega (arith, all);
+  later = [];
+  earlier = acts;
+  is = refl;
+  timeouts = omega (arith, all);
+}
 
 -- whatever that is
 pub copied_on : (act : Act) (acts : List Act) (last : Act) (retries left more : ℕ) →

@@ -1,22 +1,18 @@
 -- An end that timed out was not answered. For the law an_end_gives_up_unanswered.
-use Rattle.std.proofs.Common.{rules}
-use Rattle.tftp_lives.proofs.Common.{◌≡◌, ℕ, ◌≤◌, Bool, true, false, List, Some, None, refl, sym, ◌∙◌, Packet}
-use Rattle.tftp_lives.proofs.Common.{SourceMeaning, SinkMeaning, Endpoint, Phase, Waiting, Sending, Receiving, Terms}
-use Rattle.tftp_lives.proofs.Common.{EndState, is_complete, is_sender, outcome_of, terms_of, Act, Took, newest, next_of}
-use Rattle.tftp_lives.proofs.Common.{AreOpposite, Awaits}
-use Rattle.std.specs.Prelude.{option_map}
-use Rattle.std.proofs.lemmas.Option.{same_Some}
-use Rattle.tftp_ends.specs.declared.outcome.Outcome.TheVariants as outcomes
-use Rattle.tftp_ends.specs.End.{number_of}
+use Rattle.tftp_lives.proofs.Common.{List, ◌≡◌, ℕ, true, Some, None, false, refl, sym, ◌∙◌, ◌≤◌, Bool, Packet}
+use Rattle.tftp_lives.proofs.Common.{SinkMeaning, SourceMeaning, EndState, is_sender, outcome_of, is_complete, terms_of}
+use Rattle.tftp_lives.proofs.Common.{Endpoint, Phase, Receiving, Sending, Waiting, Terms, Act, Took, newest, next_of}
+use Rattle.tftp_lives.proofs.Common.{AreOpposite, Awaits, rules, IsUnanswered, option_map, same_Some, number_of}
+use Rattle.tftp_lives.proofs.Common.{AnswersWhatItHandled}
 use Rattle.tftp_ends.specs.End.{record_of}
-use Rattle.tftp_lives.specs.Unanswered.{EndsGiveUpUnanswered, EndsGiveUpUnheard}
-use Rattle.tftp_lives.specs.Unanswered.{AnswersWhatItHandled, IsUnanswered, IsUnheard}
+use Rattle.tftp_lives.specs.Unanswered.{EndsGiveUpUnanswered, EndsGiveUpUnheard, IsUnheard}
 use Rattle.tftp_lives.proofs.Stands.{DueSo, Goes, IsCopied, IsIn, NotFrom, Over, SaidSo, SentBy, Stands, TalksSo}
 use Rattle.tftp_lives.proofs.Stands.{all_has, due_at, more_of}
 use Rattle.tftp_lives.proofs.OneOrder.{split_at}
 use Rattle.tftp_lives.proofs.OpenEnds.{gave_up_only}
 use Rattle.tftp_lives.proofs.LivesStand.{life_stands}
 use Rattle.tftp_lives.proofs.Answering.{ends_answer, has_asked, has_tried, number_in, peer_in}
+use Rattle.tftp_ends.specs.declared.outcome.Outcome.TheVariants as outcomes
 
 module _ (x : EndState) where
   -- ---- an end that timed out

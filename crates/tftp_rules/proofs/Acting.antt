@@ -1,12 +1,9 @@
 -- Rules that act in sequence at one end, by the view of that end. For Actions and Refines.
-use Rattle.std.proofs.Common.{rules as std_rules}
-use Rattle.tftp_rules.proofs.Common.{common_steps, ◌≡◌, ◌+◌, Bool, true, false, List, [], ◌∷◌, ◌++◌, sym, refl, ap, ◌∙◌}
-use Rattle.tftp_rules.proofs.Common.{subst, arith, rules, ◌≢◌, Contains, Endpoint, Message, Party, Machine, Network}
-use Rattle.tftp_rules.proofs.Common.{Rule, Asks, Opens_plainly, Opens_with, actor, Guard, party_after, after, IsLegal}
-use Rattle.tftp_rules.proofs.Common.{run, ActInTurn, party_then, sent_by}
-use Rattle.std.proofs.lemmas.List.Elements.{Contains-append_left}
-use Rattle.tftp_wire.specs.declared.packet.Request.{Request as WireRequest}
-use Rattle.tftp_rules.specs.Rules.{MayAct, OpensNoDuplicate, packets}
+use Rattle.tftp_rules.proofs.Common.{◌≡◌, List, refl, sym, true, [], false, rules, ◌∷◌, arith, ◌∙◌, Bool, ◌++◌, ap}
+use Rattle.tftp_rules.proofs.Common.{subst, std_rules, common_steps, Contains-append_left, Contains, ◌≢◌, Endpoint}
+use Rattle.tftp_rules.proofs.Common.{Network, Message, Machine, Party, Rule, after, Asks, run, Opens_with, Guard}
+use Rattle.tftp_rules.proofs.Common.{IsLegal, Opens_plainly, party_after, actor, MayAct, packets, OpensNoDuplicate}
+use Rattle.tftp_rules.proofs.Common.{ActInTurn, party_then, sent_by, WireRequest}
 use Rattle.tftp_rules.proofs.Grows.{with_at, with_other}
 
 -- what the view of an end does not have

@@ -1,28 +1,25 @@
 -- No action on a datagram blames a peer that is no stranger, which sent what is true.
 -- For the laws on blame of worlds (tftp_player) and of programs (tftp_promises).
-use Rattle.tftp_rules.proofs.Common.{◌≡◌, ℕ, ◌+◌, ◌*◌, ◌<◌, ◌≤◌, true, false, not, List, [], ◌++◌, length, take, Option}
-use Rattle.tftp_rules.proofs.Common.{Some, None, Result, Ok, Err, refl, sym, ap, ◌∙◌, subst, arith, inr, ◌≢◌, ◌==◌}
-use Rattle.tftp_rules.proofs.Common.{nat_lt, is_none, ◌&&◌, if◌then◌else◌, option_map, slice_get, Contains, true≢false}
-use Rattle.tftp_rules.proofs.Common.{eqb-true, ltb-false, has_error_opcode, Spells, Mode, Read, Write, Oack, Asked}
-use Rattle.tftp_rules.proofs.Common.{Known, DEFAULT_BLOCK, Refusal, block, Fits, wire_text, Outcome, Phase, Waiting}
-use Rattle.tftp_rules.proofs.Common.{Sending, Receiving, Dallying, Closed, Terms, is_sender, is_client, is_complete}
-use Rattle.tftp_rules.proofs.Common.{terms_of, Decodes, is_wrong_peer, same_address, garbled_response, packet_action}
-use Rattle.tftp_rules.proofs.Common.{datagram_action, sender_action, receiver_action, next_action, dally_response}
-use Rattle.tftp_rules.proofs.Common.{reader_action, writer_action, accept_action, refusal_action, default_terms}
-use Rattle.tftp_rules.proofs.Common.{EndKept, PhaseKept, IsFromServer, IsThere, Attests, Holds, Endpoint, Elsewhere}
-use Rattle.tftp_rules.proofs.Common.{Machine, Message, Network, Party, start, OpenEnd, has_failed, open_view, Rule}
-use Rattle.tftp_rules.proofs.Common.{message, run, said, EndView, IsShownAt, Matches, Shows}
-use Rattle.std.proofs.Common.{rules as std_rules}
-use Rattle.std.specs.Prelude.{◌/◌}
-use Rattle.std.proofs.lemmas.Bool.{le-ltb}
+use Rattle.tftp_rules.proofs.Common.{◌≡◌, List, refl, sym, true, [], false, ℕ, arith, ◌∙◌, Some, Bool, ◌++◌, ap, subst}
+use Rattle.tftp_rules.proofs.Common.{length, ◌+◌, ◌<◌, ◌≤◌, None, inr, ◌*◌, Option, Ok, not, Result, Err, take}
+use Rattle.tftp_rules.proofs.Common.{std_rules, true≢false, eqb-true, ltb-false, Contains, ◌≢◌, if◌then◌else◌, nat_lt}
+use Rattle.tftp_rules.proofs.Common.{◌&&◌, ◌==◌, slice_get, is_none, option_map, ◌/◌, has_error_opcode, Spells, Mode}
+use Rattle.tftp_rules.proofs.Common.{Oack, Read, Write, Asked, Known, DEFAULT_BLOCK, Refusal, block, Fits, wire_text}
+use Rattle.tftp_rules.proofs.Common.{is_wrong_peer, datagram_action, Decodes, same_address, garbled_response}
+use Rattle.tftp_rules.proofs.Common.{packet_action, is_sender, terms_of, is_client, is_complete, receiver_action}
+use Rattle.tftp_rules.proofs.Common.{next_action, dally_response, sender_action, default_terms, reader_action}
+use Rattle.tftp_rules.proofs.Common.{writer_action, accept_action, refusal_action, Action, Outcome, Phase, Sending}
+use Rattle.tftp_rules.proofs.Common.{Receiving, Dallying, Waiting, Closed, Terms, EndKept, PhaseKept, IsFromServer}
+use Rattle.tftp_rules.proofs.Common.{IsThere, Holds, Attests, Endpoint, Network, Message, Machine, Party, Elsewhere}
+use Rattle.tftp_rules.proofs.Common.{start, OpenEnd, open_view, has_failed, Rule, message, run, said, EndView, Matches}
+use Rattle.tftp_rules.proofs.Common.{IsShownAt, Shows, requested, if_either, one_meaning}
+use Rattle.tftp_rules.proofs.PhaseMoves.{both_true}
+use Rattle.std.proofs.lemmas.Bool.{le-ltb, eqb-false, not-false}
 use Rattle.tftp_wire.specs.declared.packet.Packet.{Packet}
 use Rattle.tftp_wire.specs.declared.packet.Packet.TheVariants.{Data, Ack, Error}
-use Rattle.tftp_wire.proofs.SpellingLemmas.{one_meaning, spelled_has_no_fault}
-use Rattle.tftp_negotiate.specs.declared.known.Kind.TheVariants as kinds
-use Rattle.tftp_negotiate.specs.declared.refusal.Refusal.TheVariants as refusals
-use Rattle.tftp_ends.specs.declared.outcome.Outcome.TheVariants as outcomes
+use Rattle.tftp_wire.proofs.SpellingLemmas.{spelled_has_no_fault}
 use Rattle.tftp_ends.specs.End.{number_of, size_of}
-use Rattle.tftp_rules.proofs.BlamelessTurns.{Allowed, CanSend, Fine, FineResponse, either_if, no_terms, IsCalm}
+use Rattle.tftp_rules.proofs.BlamelessTurns.{Allowed, CanSend, Fine, FineResponse, no_terms, IsCalm}
 use Rattle.tftp_rules.proofs.Grows.{HasPeer, peer_of as peer_is}
 use Rattle.tftp_rules.proofs.NumbersNear.{AreNear, near_run, near_start}
 use Rattle.tftp_rules.proofs.PlainPeers.{HasPlainPeer, plain_answer}
@@ -30,7 +27,8 @@ use Rattle.tftp_rules.proofs.RulesGrow.{run_fit, start_fit, GoToPort, run_goes, 
 use Rattle.tftp_rules.proofs.Runs.{Holds-start, Holds-run}
 use Rattle.tftp_rules.proofs.SaidLemmas.{says_spelled}
 use Rattle.tftp_rules.proofs.Steps.{own_of, same_size, server_end}
-use Rattle.tftp_rules.proofs.StorableBlocks.{IsStorable, and_false, and_true, by_one, differs, from_not, storable}
+use Rattle.tftp_rules.proofs.StorableBlocks.{IsStorable, storable}
+use Rattle.tftp_ends.specs.declared.outcome.Outcome.TheVariants as outcomes
 
 -- bytes that spell a packet are decoded as that one
 pub decoded_is : (bytes : List ℕ) (packet : Packet) (decoded : Option Packet) → Spells packet bytes →
@@ -83,6 +81,14 @@ module _ (network : Network) (Blames : Endpoint → Outcome → Type 0) (calm : 
   abbrev Ours : Type 0
   Ours = network.host_of from ≢ Elsewhere
 
+  abbrev Blames_none : Option Terms → Action → Type 0
+  Blames_none known action = Fine network Blames x known action
+
+  -- of two actions, with what was tested
+  either : (known : Option Terms) (b : Bool) (one two : Action) → (b ≡ true → Blames_none known one) →
+      (b ≡ false → Blames_none known two) → Blames_none known (if b then one else two)
+  either known = if_either (Blames_none known)
+
   at_x : Matches (open_view x) (ends x.address)
   at_x = shows.ends k (open_view x) there
 
@@ -105,11 +111,11 @@ module _ (network : Network) (Blames : Endpoint → Outcome → Type 0) (calm : 
   port_only : GoToPort network messages
   port_only = search (std_rules, run_goes, start_goes)
 
-  no_read : Ours → (r : _) → decoded ≡ Some (Read r) → ⊥
-  no_read own r is = not_port (port_only (message from x.address (said (Read r))) (told own (Read r) is) own tt)
-
-  no_write : Ours → (r : _) → decoded ≡ Some (Write r) → ⊥
-  no_write own r is = not_port (port_only (message from x.address (said (Write r))) (told own (Write r) is) own tt)
+  no_request : Ours → (write : Bool) (r : _) → decoded ≡ Some (requested write r) → ⊥
+  no_request own true r is = not_port (port_only (message from x.address (said (Write r))) (told own
+      (Write r) is) own tt)
+  no_request own false r is = not_port (port_only (message from x.address (said (Read r))) (told own
+      (Read r) is) own tt)
 
   fit_peer : Ours → (n : ℕ) (piece : List ℕ) → decoded ≡ Some (Data n piece) →
       Fits (ends from).text (ends from).size
@@ -120,25 +126,26 @@ module _ (network : Network) (Blames : Endpoint → Outcome → Type 0) (calm : 
       run_fit network rules start (Holds-start network) (start_fit network) shown.0 from t.is_open
       t.sender x.address t.peer (inr (let z : 1 ≤ (ends from).number = omega (arith, low, many) in z))
 
-  -- the next block, if no terms but these are blamed
-  next_fine : (known : Option Terms) (terms : Terms) →
-      ((o : Outcome) → (Ours → Blames from o → ⊥) → Allowed network Blames (Some terms) o) → (mode : Mode)
-      (held : List ℕ) (number : ℕ) (piece : List ℕ) → (Ours → IsStorable IsText mode held terms.size number piece) →
-      Fine network Blames x known (next_action mode held terms number piece)
-  next_fine known terms allowed mode held number piece h =
-      either_if network Blames x _ _ _ _ (λ long. allowed outcomes.Illegal (λ own b.
-      true≢false (sym long ∙ le-ltb terms.size (length piece) (h own).within))) (λ _. either_if network Blames x _ _ _ _
-      (λ full. allowed outcomes.TooLarge (λ own b.
-      let both = and_true _ _ full in
-      (h own).short (eqb-true number 65535 both.0) (eqb-true (length piece) terms.size both.1))) (λ _. either_if network
-      Blames x _ _ _ _ (λ _. tt) (λ bad. allowed outcomes.NotNetascii (λ own b. true≢false (sym ((h own).readable b) ∙
-      bad)))))
+  -- a peer is blamed for no outcome that does not blame it if it is ours
+  blamed : (terms : Terms) → terms.peer ≡ from → (o : Outcome) → (Ours → Blames from o → ⊥) →
+      Allowed network Blames (Some terms) o
+  blamed terms same o h p e own b = search std_rules
+
+  -- the next block
+  next_fine : (known : Option Terms) (terms : Terms) → terms.peer ≡ from → (mode : Mode) (held : List ℕ) (number : ℕ)
+      (piece : List ℕ) → (Ours → IsStorable IsText mode held terms.size number piece) →
+      Blames_none known (next_action mode held terms number piece)
+  next_fine known terms same mode held number piece h =
+      either known _ _ _ (λ long. blamed terms same outcomes.Illegal (λ own b.
+      true≢false (sym long ∙ le-ltb terms.size (length piece) (h own).within))) (λ _. either known _ _ _
+      (λ full. blamed terms same outcomes.TooLarge (λ own b.
+      let both = both_true _ _ full in
+      (h own).short (eqb-true number 65535 both.0) (eqb-true (length piece) terms.size both.1)))
+      (λ _. either known _ _ _
+      (λ _. tt) (λ bad. blamed terms same outcomes.NotNetascii (λ own b. true≢false (sym ((h own).readable b) ∙ bad)))))
 
   -- ---- from the peer of an end that has one
   module _ (terms : Terms) (known : terms_of now ≡ Some terms) (same : terms.peer ≡ from) where
-    blamed : (o : Outcome) → (Ours → Blames from o → ⊥) → Allowed network Blames (Some terms) o
-    blamed o h p e own b = search std_rules
-
     peer_x : (ends x.address).peer ≡ Some from
     peer_x = at_x.peer ∙ (ap (option_map (λ (t : Terms). t.peer)) known ∙ ap Some same)
 
@@ -153,43 +160,42 @@ module _ (network : Network) (Blames : Endpoint → Outcome → Type 0) (calm : 
         (is_client x.state.role.side && terms.by_oack) ≡ false → ⊥
     no_oack own options is f =
         let t = truth own (Oack options) is in
-        let client = sym at_x.client ∙ from_not (ends x.address).client (sym t.client ∙ (pair own).client) in
-        let took = and_false (is_client x.state.role.side) terms.by_oack f client in
-        let p = plain client terms known took in
+        let client = sym at_x.client ∙ not-false (ends x.address).client (sym (pair own).client ∙ t.client) in
+        let p = plain client terms known (rw client at f) in
         true≢false (sym p.1 ∙ (ap (λ (a : Endpoint). (ends a).plain) same ∙ t.plain))
 
     -- ---- a sender
     sender_fine : (n : ℕ) → now ≡ Sending terms n → (d : Option Packet) → decoded ≡ d →
-        Fine network Blames x (Some terms) (sender_action (is_client x.state.role.side) x.state.role.length terms n d)
-    sender_fine n phase None is = blamed outcomes.Illegal (λ own b. none_garbled own is)
-    sender_fine n phase (Some (Read r)) is = blamed outcomes.Illegal (λ own b. no_read own r is)
-    sender_fine n phase (Some (Write r)) is = blamed outcomes.Illegal (λ own b. no_write own r is)
+        Blames_none (Some terms) (sender_action (is_client x.state.role.side) x.state.role.length terms n d)
+    sender_fine n phase None is = blamed terms same outcomes.Illegal (λ own b. none_garbled own is)
+    sender_fine n phase (Some (Read r)) is = blamed terms same outcomes.Illegal (λ own b. no_request own false r is)
+    sender_fine n phase (Some (Write r)) is = blamed terms same outcomes.Illegal (λ own b. no_request own true r is)
     sender_fine n phase (Some (Data j piece)) is =
-        blamed outcomes.Illegal (λ own b.
+        blamed terms same outcomes.Illegal (λ own b.
         let kept_now =
         subst (λ (p : Phase). PhaseKept network x p) phase kept.phase in
         let sends : (ends x.address).sender ≡ true = at_x.sender ∙ kept_now.sender in
         let t = truth own (Data j piece) is in
         true≢false (sym t.sender ∙ ((pair own).sender ∙ ap not sends)))
     sender_fine n phase (Some (Ack acked)) is =
-        either_if network Blames x (Some terms) (acked == n) _ _
-        (λ _. either_if network Blames x (Some terms) (nat_lt n (x.state.role.length / terms.size + 1)) _ _
+        either (Some terms) (acked == n) _ _
+        (λ _. either (Some terms) (nat_lt n (x.state.role.length / terms.size + 1)) _ _
         (λ _. let kept_now =
         subst (λ (p : Phase). PhaseKept network x p) phase kept.phase in
         record { before = n; next = refl; sender = kept_now.sender; measured = kept_now.measured; left = kept_now.left })
         (λ _. tt))
-        (λ other. either_if network Blames x (Some terms) (nat_lt acked n) _ _ (λ _. tt)
-        (λ late. blamed outcomes.Illegal (λ own b.
+        (λ other. either (Some terms) (nat_lt acked n) _ _ (λ _. tt)
+        (λ late. blamed terms same outcomes.Illegal (λ own b.
         let t = truth own (Ack acked) is in
         let h = (near from t.is_open).stores t.sender x.address t.peer own_x in
         let few = t.number in
         let number : (ends x.address).number ≡ n = at_x.number ∙ ap number_of phase in
         let past : n ≤ acked = ltb-false acked n late in
-        differs acked n other (omega (arith, h, few, number, past)))))
+        eqb-false acked n other (omega (arith, h, few, number, past)))))
     sender_fine n phase (Some (Error code text)) is = λ p e own b. calm.heard p code b
     sender_fine n phase (Some (Oack options)) is =
-        either_if network Blames x (Some terms) (is_client x.state.role.side && terms.by_oack) _ _ (λ _. tt)
-        (λ f. blamed outcomes.Illegal (λ own b. no_oack own options is f))
+        either (Some terms) (is_client x.state.role.side && terms.by_oack) _ _ (λ _. tt)
+        (λ f. blamed terms same outcomes.Illegal (λ own b. no_oack own options is f))
 
     -- ---- a receiver
     module _ (n : ℕ) (phase : now ≡ Receiving terms n) where
@@ -225,41 +231,43 @@ module _ (network : Network) (Blames : Endpoint → Outcome → Type 0) (calm : 
           (ends from).text j (n + 1)) sizes)
 
       receiver_fine : (d : Option Packet) → decoded ≡ d →
-          Fine network Blames x (Some terms)
+          Blames_none (Some terms)
           (receiver_action (is_client x.state.role.side) x.state.role.mode x.state.position.held_back terms n d)
-      receiver_fine None is = blamed outcomes.Illegal (λ own b. none_garbled own is)
-      receiver_fine (Some (Read r)) is = blamed outcomes.Illegal (λ own b. no_read own r is)
-      receiver_fine (Some (Write r)) is = blamed outcomes.Illegal (λ own b. no_write own r is)
+      receiver_fine None is = blamed terms same outcomes.Illegal (λ own b. none_garbled own is)
+      receiver_fine (Some (Read r)) is = blamed terms same outcomes.Illegal (λ own b. no_request own false r is)
+      receiver_fine (Some (Write r)) is = blamed terms same outcomes.Illegal (λ own b. no_request own true r is)
       receiver_fine (Some (Data j piece)) is =
-          either_if network Blames x (Some terms) (j == n) _ _ (λ _. tt)
-          (λ other. either_if network Blames x (Some terms) (nat_lt j n) _ _ (λ _. tt)
-          (λ late. either_if network Blames x (Some terms) (j == n + 1) _ _
+          either (Some terms) (j == n) _ _ (λ _. tt)
+          (λ other. either (Some terms) (nat_lt j n) _ _ (λ _. tt)
+          (λ late. either (Some terms) (j == n + 1) _ _
           (λ next.
           let j_is : j ≡ n + 1 = eqb-true j (n + 1) next in
-          next_fine (Some terms) terms blamed x.state.role.mode x.state.position.held_back j piece (λ own.
+          next_fine (Some terms) terms same x.state.role.mode x.state.position.held_back j piece (λ own.
           subst (λ (i : ℕ). IsStorable IsText x.state.role.mode x.state.position.held_back terms.size i piece) (sym j_is)
           (can_store piece (is ∙ ap (λ (i : ℕ). Some (Data i piece)) j_is) own)))
-          (λ far. blamed outcomes.Illegal (λ own b.
+          (λ far. blamed terms same outcomes.Illegal (λ own b.
           let t = truth own (Data j piece) is in
           let h = (near from t.is_open).sends t.sender x.address t.peer own_x in
           let few = t.number in
           let number = number_x in
           let past : n ≤ j = ltb-false j n late in
-          by_one j n past (omega (arith, h, few, number)) (differs j n other) (differs j (n + 1) far)))))
+          let low = eqb-false j n other in
+          let high = eqb-false j (n + 1) far in
+          omega (arith, h, few, number, past, low, high)))))
       receiver_fine (Some (Ack acked)) is =
-          blamed outcomes.Illegal (λ own b.
+          blamed terms same outcomes.Illegal (λ own b.
           let t = truth own (Ack acked) is in
           true≢false (sym ((pair own).sender ∙ ap not (at_x.sender ∙ receives)) ∙ t.sender))
       receiver_fine (Some (Error code text)) is = λ p e own b. calm.heard p code b
       receiver_fine (Some (Oack options)) is =
-          either_if network Blames x (Some terms) (is_client x.state.role.side && terms.by_oack) _ _
-          (λ _. either_if network Blames x (Some terms) (n == 0) _ _ (λ _. tt) (λ _. tt))
-          (λ f. blamed outcomes.Illegal (λ own b. no_oack own options is f))
+          either (Some terms) (is_client x.state.role.side && terms.by_oack) _ _
+          (λ _. either (Some terms) (n == 0) _ _ (λ _. tt) (λ _. tt))
+          (λ f. blamed terms same outcomes.Illegal (λ own b. no_oack own options is f))
 
-  refusal_fine : (refusal : Refusal) → Fine network Blames x None (refusal_action refusal)
+  refusal_fine : (refusal : Refusal) → Blames_none None (refusal_action refusal)
   refusal_fine refusal = search std_rules
 
-  accept_fine : (r : Result (List Known) Refusal) → Fine network Blames x None (accept_action from r)
+  accept_fine : (r : Result (List Known) Refusal) → Blames_none None (accept_action from r)
   accept_fine (Ok ks) = tt
   accept_fine (Err refusal) = refusal_fine refusal
 
@@ -268,7 +276,7 @@ module _ (network : Network) (Blames : Endpoint → Outcome → Type 0) (calm : 
   can_begin asked limit phase sends terms = search std_rules
 
   writer_fine : (mode : Mode) (asked : Asked) (limit count : ℕ) (d : Option Packet) →
-      ((terms : Terms) → CanSend x terms 1) → Fine network Blames x None (writer_action mode asked limit count from d)
+      ((terms : Terms) → CanSend x terms 1) → Blames_none None (writer_action mode asked limit count from d)
   writer_fine mode asked limit count d can = search std_rules
 
   module _ (asked : Asked) (limit : ℕ) (phase : now ≡ Waiting asked limit)
@@ -276,9 +284,6 @@ module _ (network : Network) (Blames : Endpoint → Outcome → Type 0) (calm : 
       (receives : is_sender x.state.role.side ≡ false) where
     none_yet : terms_of now ≡ None
     none_yet = ap terms_of phase
-
-    blamed_first : (o : Outcome) → (Ours → Blames from o → ⊥) → Allowed network Blames (Some (default_terms from)) o
-    blamed_first o h p e own b = search std_rules
 
     can_store_first : (piece : List ℕ) → decoded ≡ Some (Data 1 piece) → Ours →
         IsStorable IsText x.state.role.mode [] DEFAULT_BLOCK (0 + 1) piece
@@ -308,21 +313,21 @@ module _ (network : Network) (Blames : Endpoint → Outcome → Type 0) (calm : 
         from).text j 1) small)
 
     first_fine : (j : ℕ) (piece : List ℕ) → decoded ≡ Some (Data j piece) → j ≡ 1 →
-        Fine network Blames x None
+        Blames_none None
         (receiver_action true x.state.role.mode [] (default_terms from) 0 (Some (Data j piece)))
     first_fine j piece is j_is =
-        either_if network Blames x None (j == 0) _ _ (λ _. tt)
-        (λ _. either_if network Blames x None (nat_lt j 0) _ _ (λ _. tt)
-        (λ _. either_if network Blames x None (j == 0 + 1) _ _
-        (λ _. next_fine None (default_terms from) blamed_first x.state.role.mode [] j piece (λ own.
+        either None (j == 0) _ _ (λ _. tt)
+        (λ _. either None (nat_lt j 0) _ _ (λ _. tt)
+        (λ _. either None (j == 0 + 1) _ _
+        (λ _. next_fine None (default_terms from) refl x.state.role.mode [] j piece (λ own.
         subst (λ (i : ℕ). IsStorable IsText x.state.role.mode [] DEFAULT_BLOCK i piece) (sym j_is)
         (can_store_first piece (is ∙ ap (λ (i : ℕ). Some (Data i piece)) j_is) own)))
-        (λ far. absurd (differs j 1 far j_is))))
+        (λ far. absurd (eqb-false j 1 far j_is))))
 
     reader_fine : (d : Option Packet) → decoded ≡ d →
-        Fine network Blames x None (reader_action x.state.role.mode asked limit from d)
+        Blames_none None (reader_action x.state.role.mode asked limit from d)
     reader_fine d is =
-        search (std_rules, no_terms, either_if, first_fine, eqb-true, and_true, accept_fine)
+        search (std_rules, no_terms, either, first_fine, eqb-true, both_true, accept_fine)
 
   -- ---- in every phase
   abbrev IsRight : Type 0
@@ -334,9 +339,9 @@ module _ (network : Network) (Blames : Endpoint → Outcome → Type 0) (calm : 
   dally_fine : (known : Option Terms) (n : ℕ) (d : Option Packet) → FineResponse network Blames known (dally_response n d)
   dally_fine known n d = search std_rules
 
-  packet_fine : (p : Phase) → now ≡ p → IsRight → Fine network Blames x (terms_of p) (packet_action x.state from decoded p)
+  packet_fine : (p : Phase) → now ≡ p → IsRight → Blames_none (terms_of p) (packet_action x.state from decoded p)
   packet_fine (Waiting asked limit) e right =
-      search (std_rules, either_if, writer_fine, can_begin, reader_fine)
+      search (std_rules, either, writer_fine, can_begin, reader_fine)
   packet_fine (Sending terms n) e right =
       let known = ap terms_of e in sender_fine terms known (peer_of_now terms known right) n e decoded refl
   packet_fine (Receiving terms n) e right =
@@ -353,10 +358,10 @@ module _ (network : Network) (Blames : Endpoint → Outcome → Type 0) (calm : 
   garbled_fine p e right none = search (std_rules, no_terms, blamed, peer_of_now, none_garbled, none_of)
 
   -- the action on a datagram blames no peer that is no stranger
-  pub datagram_fine : Fine network Blames x (terms_of now) (datagram_action x.state from bytes decoded)
+  pub datagram_fine : Blames_none (terms_of now) (datagram_action x.state from bytes decoded)
   datagram_fine =
-      either_if network Blames x (terms_of now) (is_wrong_peer (terms_of now) x.state.position.last_sent_to from) _ _
-      (λ wrong. either_if network Blames x (terms_of now) (has_error_opcode bytes) _ _ (λ _. tt) (λ _. tt))
-      (λ right. either_if network Blames x (terms_of now) (has_error_opcode bytes && is_none decoded) _ _
-      (λ g. garbled_fine now refl right (and_true (has_error_opcode bytes) (is_none decoded) g).1)
+      either (terms_of now) (is_wrong_peer (terms_of now) x.state.position.last_sent_to from) _ _
+      (λ wrong. either (terms_of now) (has_error_opcode bytes) _ _ (λ _. tt) (λ _. tt))
+      (λ right. either (terms_of now) (has_error_opcode bytes && is_none decoded) _ _
+      (λ g. garbled_fine now refl right (both_true (has_error_opcode bytes) (is_none decoded) g).1)
       (λ _. packet_fine now refl right))

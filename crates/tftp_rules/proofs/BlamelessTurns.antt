@@ -1,15 +1,11 @@
 -- A turn blames nobody if its action does not, whatever it means to blame a peer by an outcome.
 -- For BlamelessActions, and for the laws on blame of worlds (tftp_player) and of programs (tftp_promises).
-use Rattle.std.proofs.lemmas.Grind.{common_steps as std_common_steps}
-use Rattle.std.proofs.Common.{arith as std_arith}
-use Rattle.tftp_rules.proofs.Common.{◌≡◌, ℕ, ◌+◌, ◌*◌, Bool, true, false, List, length, drop, Option, Some, None, ◌≢◌}
-use Rattle.tftp_rules.proofs.Common.{if◌then◌else◌, option_map, StoreFault, Files, Holding, SinkMeaning, SourceMeaning}
-use Rattle.tftp_rules.proofs.Common.{Action, Respond, Send, Store, Response, Close, Refuse, Complete, Outcome, Terms}
-use Rattle.tftp_rules.proofs.Common.{is_sender, terms_of, outcome_of, Turn, Acts, Endpoint, Elsewhere, Network, OpenEnd}
-use Rattle.tftp_rules.proofs.Common.{files_of}
-use Rattle.tftp_ends.proofs.RunMoves.{if_either}
+use Rattle.tftp_rules.proofs.Common.{◌≡◌, List, true, ℕ, Some, length, ◌+◌, None, ◌*◌, Option, drop, std_arith}
+use Rattle.tftp_rules.proofs.Common.{std_common_steps, ◌≢◌, option_map, Holding, SinkMeaning, SourceMeaning, StoreFault}
+use Rattle.tftp_rules.proofs.Common.{Files, is_sender, terms_of, outcome_of, Position, Turn, Acts, Action, Respond}
+use Rattle.tftp_rules.proofs.Common.{Send, Store, Response, Close, Refuse, Complete, Outcome, Terms, Endpoint, Network}
+use Rattle.tftp_rules.proofs.Common.{Elsewhere, OpenEnd, files_of}
 use Rattle.tftp_ends.specs.declared.outcome.Outcome.TheVariants as outcomes
-use Rattle.tftp_ends.specs.End.{Position}
 
 -- which outcomes blame which peer: these blame none
 pub record IsCalm (Blames : Endpoint → Outcome → Type 0) : Type 0 where
@@ -49,11 +45,6 @@ module _ (network : Network) (Blames : Endpoint → Outcome → Type 0) where
   Fine x known (Respond response) = FineResponse known response
   Fine x known (Send terms number) = CanSend x terms number
   Fine x known (Store terms number) = Unit {0}
-
-  -- of two actions, with what was tested
-  pub either_if : (x : OpenEnd) (known : Option Terms) (b : Bool) (one two : Action) → (b ≡ true → Fine x known one) →
-      (b ≡ false → Fine x known two) → Fine x known (if b then one else two)
-  either_if x known = if_either (Fine x known)
 
   -- ---- nor does a turn
   -- a position has no outcome that blames

@@ -1,8 +1,8 @@
 -- The blocks of a text, in sequence. For `texts_go_on`, four other files and the crate tftp_player.
-use Rattle.tftp_rules.proofs.Common.{◌≡◌, ℕ, ◌+◌, ◌*◌, ◌-◌, ◌<◌, ◌≤◌, List, ◌++◌, length, take, drop, arith, rules}
-use Rattle.tftp_rules.proofs.Common.{length-take, block, block_count, IsPrefixOf}
+use Rattle.tftp_rules.proofs.Common.{◌≡◌, List, ℕ, rules, arith, ◌++◌, length, ◌+◌, ◌<◌, ◌≤◌, ◌*◌, drop, take}
+use Rattle.tftp_rules.proofs.Common.{length-take, length-drop, take-append-drop, block, block_count, IsPrefixOf}
 use Rattle.std.proofs.Math.Seq.{take-add}
-use Rattle.std.proofs.lemmas.List.{take-append-drop, length-drop, take_all}
+use Rattle.std.proofs.lemmas.List.{take_all}
 use Rattle.tftp_rules.specs.Texts.{BlocksGoOn, BlocksHaveLengths}
 
 -- the first elements of a list are a prefix of it

@@ -1,9 +1,8 @@
 -- Whether two endpoints are the same. For `texts_go_on`, eight other files and the crates tftp_player and
 -- tftp_promises.
-use Rattle.tftp_rules.proofs.Common.{◌≡◌, ℕ, true, false, List, sym, refl, ap, ◌∙◌, inl, inr, rules, ◌≢◌, ◌⊎◌, ◌==◌}
-use Rattle.tftp_rules.proofs.Common.{cases_Bool, eq-eqb, cases_eq, Endpoint, is_same_ip, is_same}
-use Rattle.std.specs.Cmp.Lexicographic.{same_text, other_text}
-use Rattle.std.proofs.lemmas.Bool.{cond-true}
+use Rattle.tftp_rules.proofs.Common.{◌≡◌, List, refl, sym, true, false, ℕ, rules, ◌∙◌, ap, inl, inr, cases_Bool, eq-eqb}
+use Rattle.tftp_rules.proofs.Common.{cases_eq, cond-true, ◌≢◌, ◌==◌, ◌⊎◌, Endpoint, is_same, is_same_ip, same_text}
+use Rattle.std.specs.Cmp.Lexicographic.{other_text}
 use Rattle.tftp_rules.specs.Texts.{EndpointsAreTheirParts}
 
 -- an address is the same as itself

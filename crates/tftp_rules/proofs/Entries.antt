@@ -1,7 +1,7 @@
 -- What a look-up finds among the entries of a map after one was added, replaced or removed. For the crates
 -- tftp_player and tftp_promises.
-use Rattle.tftp_rules.proofs.Common.{◌≡◌, Bool, true, false, List, [], ◌∷◌, Some, refl, sym, ap, ◌∙◌, rules, is_some}
-use Rattle.std.proofs.Common.{◌≢◌, cond}
+use Rattle.tftp_rules.proofs.Common.{◌≡◌, List, refl, sym, true, [], false, rules, ◌∷◌, ◌∙◌, Some, Bool, ap, cond, ◌≢◌}
+use Rattle.tftp_rules.proofs.Common.{is_some}
 use Rattle.std.specs.BTreeMap.{insert_entry, is_at}
 use Rattle.std.specs.Cmp.{IsTotalOrder, eq_by_cmp_equiv, nat_cmp_total}
 use Rattle.std.specs.Map.{lookup, remove_entry, set_value}

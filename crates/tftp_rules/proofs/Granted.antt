@@ -1,19 +1,18 @@
 -- The options that a server's end agrees to: its block size, and that its OACK is a packet. For
 -- `a_request_opens_an_end` and the crates tftp_player and tftp_promises.
-use Rattle.tftp_rules.proofs.Common.{common_steps, ◌≡◌, ℕ, ◌^◌, ◌<◌, ◌≤◌, List, [], ◌∷◌, Ok, sym, subst, arith}
-use Rattle.tftp_rules.proofs.Common.{AllByRecursion, MAX_BLOCK, Mode, RawOption, Kind, Known, size}
-use Rattle.tftp_negotiate.specs.declared.known.Kind.TheVariants as kinds
-use Rattle.tftp_negotiate.specs.declared.known.Known.TheVariants as known
+use Rattle.tftp_rules.proofs.Common.{◌≡◌, List, sym, [], ℕ, ◌∷◌, arith, subst, ◌<◌, ◌≤◌, Ok, ◌^◌, common_steps}
+use Rattle.tftp_rules.proofs.Common.{AllByRecursion, MAX_BLOCK, Mode, RawOption, size, Kind, Known, Timeout, Tsize}
+use Rattle.tftp_rules.proofs.Common.{Name, numbers_are_printed}
 use Rattle.tftp_negotiate.specs.declared.limits.Limits.{Limits}
-use Rattle.tftp_negotiate.specs.declared.name.Name.{Name}
-use Rattle.tftp_negotiate.specs.declared.name.Name.TheVariants.{Timeout, Tsize}
 use Rattle.tftp_negotiate.specs.Answer.{answer}
 use Rattle.tftp_negotiate.specs.Laws.{HasWord, IsWithinRequest, Requests}
 use Rattle.tftp_negotiate.specs.Ranges.{IsBlockSize}
 use Rattle.tftp_rules.specs.EndOpens.{AnswersAreGranted}
-use Rattle.tftp_negotiate.proofs.LawsLemmas.{numbers_are_printed, answers_within_request, answers_may_be_agreed}
-use Rattle.tftp_negotiate.proofs.LawsLemmas.{agreements_are_short, agreements_have_block_sizes}
+use Rattle.tftp_negotiate.proofs.LawsLemmas.{answers_within_request, answers_may_be_agreed, agreements_are_short}
+use Rattle.tftp_negotiate.proofs.LawsLemmas.{agreements_have_block_sizes}
 use Rattle.tftp_negotiate.proofs.SpellingLemmas.{known_are_options}
+use Rattle.tftp_negotiate.specs.declared.known.Kind.TheVariants as kinds
+use Rattle.tftp_negotiate.specs.declared.known.Known.TheVariants as known
 
 -- the number of a requested option fits 64 bits
 word_of : (options : List RawOption) (name : Name) (n : ℕ) → Requests options name n → n < 2 ^ 64

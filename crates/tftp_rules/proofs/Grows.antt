@@ -1,11 +1,10 @@
 -- An open end of the machine continues: what does not change, and what its datagrams imply stays true. For twelve
 -- other files and the crate tftp_player.
-use Rattle.std.proofs.Common.{rules as std_rules}
-use Rattle.tftp_rules.proofs.Common.{◌≡◌, ◌≤◌, true, not, List, [], ◌∷◌, ◌++◌, Some, sym, subst, inl, inr, rules, ◌≢◌}
-use Rattle.tftp_rules.proofs.Common.{message, Contains, Contains-append_cases, Endpoint, is_same, Elsewhere, Packet}
-use Rattle.tftp_rules.proofs.Common.{Message, Party, Machine, with_end, Network, Attests, HasReceived, IsSoundParty}
-use Rattle.tftp_rules.proofs.Common.{Holds}
-use Rattle.std.proofs.lemmas.Bool.{cond-true, cond-false}
+use Rattle.tftp_rules.proofs.Common.{◌≡◌, List, sym, true, [], rules, ◌∷◌, Some, ◌++◌, subst, ◌≤◌, inl, inr, not}
+use Rattle.tftp_rules.proofs.Common.{std_rules, cond-true, Contains-append_cases, Contains, ◌≢◌, Holds, Attests}
+use Rattle.tftp_rules.proofs.Common.{HasReceived, IsSoundParty, Endpoint, Network, Message, Machine, Party, Elsewhere}
+use Rattle.tftp_rules.proofs.Common.{with_end, Packet, is_same, message}
+use Rattle.std.proofs.lemmas.Bool.{cond-false}
 use Rattle.tftp_rules.proofs.Endpoints.{same_self, same_other}
 use Rattle.tftp_rules.proofs.Steps.{none_sent}
 

@@ -1,8 +1,7 @@
 -- The host of an endpoint, by its address. For `is_foreign` and the crate tftp_player.
-use Rattle.tftp_rules.proofs.Common.{◌≡◌, Bool, refl, rules, ◌&&◌, if◌then◌else◌, client_ip, Endpoint, At_server}
-use Rattle.tftp_rules.proofs.Common.{At_client, Elsewhere, is_same_ip}
-use Rattle.std.specs.Prelude.{◌↔◌, IsTrue, not}
-use Rattle.tftp_rules.specs.Hosts.{host_of, server_ip}
+use Rattle.tftp_rules.proofs.Common.{◌≡◌, refl, rules, Bool, not, if◌then◌else◌, ◌&&◌, client_ip, server_ip, host_of}
+use Rattle.tftp_rules.proofs.Common.{Endpoint, Elsewhere, At_server, At_client, is_same_ip}
+use Rattle.std.specs.Prelude.{◌↔◌, IsTrue}
 use Rattle.tftp_rules.specs.Machine.{Host}
 
 -- an endpoint with the server's address is at the server, and one with the clients' at a client

@@ -1,9 +1,7 @@
 -- The element at an index of a list after a write or a push. For Refines and the crates tftp_player and
 -- tftp_promises.
-use Rattle.tftp_rules.proofs.Common.{◌≡◌, ℕ, List, [], ◌∷◌, ◌++◌, length, set, Some, None, refl, ap, arith, inl, inr}
-use Rattle.tftp_rules.proofs.Common.{◌≢◌, ◌⊎◌, slice_get}
-use Rattle.std.proofs.Common.{zero}
-use Rattle.std.proofs.Common.{suc, rules}
+use Rattle.tftp_rules.proofs.Common.{◌≡◌, List, refl, [], ℕ, rules, ◌∷◌, arith, Some, ◌++◌, ap, length, inl, None, inr}
+use Rattle.tftp_rules.proofs.Common.{set, suc, zero, ◌≢◌, ◌⊎◌, slice_get}
 
 -- the elements of a list after a write
 pub slice_get-set_cases : {X : Type 0} (xs : List X) (i j : ℕ) (a y : X) → slice_get (set xs i a) j ≡ Some y →

@@ -1,19 +1,15 @@
 -- The next block of a text: how long it is, and that it can be read.
 -- For StorableBlocks, and for the laws of worlds (tftp_player).
-use Rattle.std.proofs.Common.{rules as std_rules}
-use Rattle.tftp_rules.proofs.Common.{common_steps, ◌≡◌, ℕ, ◌+◌, ◌*◌, ◌-◌, ◌<◌, ◌≤◌, Bool, true, false, List, [], ◌∷◌}
-use Rattle.tftp_rules.proofs.Common.{◌++◌, length, drop, refl, sym, ap, ◌∙◌, subst, arith, inl, rules, ◌⊎◌, ◌&&◌}
-use Rattle.tftp_rules.proofs.Common.{nat_lt, append-nil, Mode, Octet, Netascii, block, block_count, Fits, wire_text}
-use Rattle.tftp_rules.proofs.Common.{is_readable}
-use Rattle.std.specs.Prelude.{not}
-use Rattle.tftp_file.specs.Netascii.{netascii_text}
+use Rattle.tftp_rules.proofs.Common.{◌≡◌, List, refl, sym, true, [], false, ℕ, rules, ◌∷◌, arith, ◌∙◌, Bool, ◌++◌, ap}
+use Rattle.tftp_rules.proofs.Common.{subst, length, ◌+◌, ◌<◌, ◌≤◌, inl, ◌*◌, not, drop, std_rules, common_steps}
+use Rattle.tftp_rules.proofs.Common.{append-nil, nat_lt, ◌&&◌, ◌⊎◌, Mode, Octet, Netascii, block, block_count, Fits}
+use Rattle.tftp_rules.proofs.Common.{wire_text, netascii_text, is_readable, ends_in_cr, begins_front}
 use Rattle.tftp_file.proofs.BlockLemmas.{last_short, others_full}
-use Rattle.tftp_file.proofs.CutLemmas.{begins_front}
-use Rattle.tftp_ends.specs.Text.{begins_netascii, ends_in_cr}
+use Rattle.tftp_ends.specs.Text.{begins_netascii}
 use Rattle.tftp_ends.proofs.TextLemmas.{decoded_begins, decoded_ends}
 use Rattle.tftp_rules.proofs.Blocks.{length-block}
 use Rattle.tftp_rules.proofs.HostBytes.{wire_prefix}
-use Rattle.tftp_rules.proofs.StoredTexts.{wire_text-append}
+use Rattle.tftp_file.proofs.LengthLemmas.{wire-append}
 
 -- of two numbers one is smaller, or they are in order
 pub less : (a b : ℕ) → (b < a) ⊎ (a ≤ b)
@@ -48,7 +44,7 @@ piece_readable Netascii file stored held piece rest last e none =
     let more = wire_prefix Netascii stored file (t ++ rest, joined) in
     let whole_is : t ++ rest ≡ netascii_text more.0 =
     drop_front (netascii_text stored) (t ++ rest) (netascii_text more.0) (joined ∙ (ap netascii_text (sym more.1) ∙
-    wire_text-append Netascii stored more.0)) in
+    wire-append Netascii stored more.0)) in
     search (std_rules, readable_by, begins_text, ends_text, append-nil)
 
 -- ---- how long a block is

@@ -1,17 +1,14 @@
 -- How far apart the numbers of an end and of its peer are, in every run of the guarded machine.
 -- For the laws of worlds on recovery and on blame (tftp_player).
-use Rattle.tftp_rules.proofs.Common.{◌≡◌, ℕ, ◌+◌, ◌*◌, ◌<◌, ◌≤◌, Bool, true, false, not, List, [], ◌∷◌, length, Some}
-use Rattle.tftp_rules.proofs.Common.{sym, refl, ap, ◌∙◌, arith, ◌≢◌, if◌then◌else◌, true≢false, ltb-true, cases_eq}
-use Rattle.tftp_rules.proofs.Common.{block, block_count, IsSoundParty, Holds, Endpoint, Elsewhere, Data, Party, Machine}
-use Rattle.tftp_rules.proofs.Common.{start, Network, Rule, Asks, Opens_plainly, Opens_with, Takes_oack, Takes_ack}
-use Rattle.tftp_rules.proofs.Common.{Takes_data, Appends, Sends_next, Completes, Fails_to_begin, message, actor}
-use Rattle.tftp_rules.proofs.Common.{party_after, Guard, after, IsLegal, run}
-use Rattle.std.proofs.Common.{rules as std_rules}
+use Rattle.tftp_rules.proofs.Common.{◌≡◌, List, refl, sym, true, [], false, ℕ, ◌∷◌, arith, ◌∙◌, Some, Bool, ap, length}
+use Rattle.tftp_rules.proofs.Common.{◌+◌, ◌<◌, ◌≤◌, ◌*◌, not, std_rules, true≢false, ltb-true, cases_eq, ◌≢◌}
+use Rattle.tftp_rules.proofs.Common.{if◌then◌else◌, block, block_count, Holds, IsSoundParty, Endpoint, Network, Machine}
+use Rattle.tftp_rules.proofs.Common.{Party, Elsewhere, start, Data, Rule, message, after, run, Guard, IsLegal, Appends}
+use Rattle.tftp_rules.proofs.Common.{Fails_to_begin, party_after, actor}
 use Rattle.std.proofs.Math.Nat.{div-lt_iff_lt-mul}
 use Rattle.tftp_rules.proofs.Blocks.{length-block}
-use Rattle.tftp_rules.proofs.Grows.{AllGrow, AllGrow-with, with_each}
-use Rattle.tftp_rules.proofs.Keeps.{keeps}
-use Rattle.tftp_rules.proofs.RulesGrow.{rule_grows}
+use Rattle.tftp_rules.proofs.Grows.{AllGrow, with_each}
+use Rattle.tftp_rules.proofs.Keeps.{keeps, rule_all}
 use Rattle.tftp_rules.proofs.Steps.{next_block, of_peer}
 
 -- a block that is shorter than the others is the last one
@@ -49,10 +46,6 @@ module _ (network : Network) where
   one_or_none true = omega arith
   one_or_none false = omega arith
 
-  none_if : (b : Bool) → b ≡ false → ◌≡◌ {A = ℕ} (if b then 1 else 0) 0
-  none_if true e = absurd (true≢false e)
-  none_if false e = refl
-
   none_unless : (b : Bool) → not b ≡ false → ◌≡◌ {A = ℕ} (if b then 0 else 1) 0
   none_unless true e = refl
   none_unless false e = absurd (true≢false e)
@@ -61,11 +54,7 @@ module _ (network : Network) where
   at_most_one true = omega arith
   at_most_one false = omega arith
 
-  -- all ends go on as a rule acts, and so the acting end is near as it was
-  rule_all : (r : Rule) (m : Machine) → Holds network m → Guard network r m → AllGrow m.party (after network r m).party
-  rule_all r m h g =
-      AllGrow-with m.party (actor r) (party_after r (m.party (actor r))) (rule_grows network r m h g)
-
+  -- as a rule acts, its end is near as it was
   near_old : (r : Rule) (m : Machine) → Holds network m → AreNear m.party → Guard network r m →
       (m.party (actor r)).is_open ≡ true → IsNear (after network r m).party (m.party (actor r))
   near_old r m h n g o = search std_rules
@@ -74,22 +63,9 @@ module _ (network : Network) where
   near_now : (r : Rule) (m : Machine) → Holds network m → AreNear m.party → Guard network r m →
       (party_after r (m.party (actor r))).is_open ≡ true →
       IsNear (after network r m).party (party_after r (m.party (actor r)))
-  near_now (Asks at write request text) m h n g o = near_first _ _ (omega arith) (λ _. refl) refl
-  near_now (Opens_plainly at peer write request text) m h n g o =
-      near_first _ _ (at_most_one write) (none_unless write) refl
-  near_now (Opens_with at peer write request text size) m h n g o = near_first _ _ (omega arith) (λ _. refl) refl
-  near_now (Takes_oack at peer size) m h n g o =
-      near_first _ _ (one_or_none (m.party at).sender) (none_if (m.party at).sender) g.0.0.1
-  near_now (Takes_ack at peer) m h n g o =
-      near_first _ _ (one_or_none (m.party at).sender) (none_if (m.party at).sender) g.0.0.1
-  near_now (Takes_data at peer bytes) m h n g o =
-      near_first _ _ (one_or_none (m.party at).sender) (none_if (m.party at).sender) g.0.0.1
-  near_now (Fails_to_begin at peer size) m h n g o =
-      let none = ((h.ends at g.0.0.0).no_peer g.0.2).0 in
-      near_first _ _ (omega (arith, none)) (λ _. none) g.0.0.1
   near_now (Appends at peer bytes) m h n g o =
       let old = m.party at in
-      let all = rule_all (Appends at peer bytes) m h g in
+      let all = rule_all network (Appends at peer bytes) m h g in
       let new = (after network (Appends at peer bytes) m).party in
       let said = h.attested (message peer at (Data (old.number + 1) bytes)) g.3 in
       record {
@@ -105,12 +81,10 @@ module _ (network : Network) where
             short_is_last _ _ _ b.positive b.room (rw (← b.bytes) (ltb-true (length bytes) old.size d))
             ∙ ap (λ (z : List ℕ). block_count z old.size) (sym ((all.grows peer t.is_open).text t.sender)));
       }
-  near_now (Sends_next at peer) m h n g o = search std_rules
-  near_now (Completes at peer) m h n g o =
-      let was = near_old (Completes at peer) m h n g o in
-      record { sends = was.sends; stores = was.stores; whole = λ s d p e own. absurd (true≢false (sym g.0.1 ∙ s)) }
+  near_now (Fails_to_begin at peer size) m h n g o =
+      let none = ((h.ends at g.0.0.0).no_peer g.0.2).0 in search (std_rules, near_first)
   near_now r m h n g o =
-      let was = near_old r m h n g o in record { sends = was.sends; stores = was.stores; whole = was.whole }
+      search (std_rules, near_first, at_most_one, none_unless, one_or_none, near_old, true≢false)
 
   -- each rule keeps the numbers near
   near_keeps : (r : Rule) (m : Machine) → Holds network m → AreNear m.party → Guard network r m →
@@ -119,7 +93,7 @@ module _ (network : Network) where
       let new = (after network r m).party in
       with_each (λ (q : Endpoint) (x : Party). IsNear new x) m.party (actor r) (party_after r (m.party (actor r)))
       (near_now r m h n g)
-      (λ q o. near_grows m.party new q (m.party q) (rule_all r m h g) (h.ends q o) (n q o))
+      (λ q o. near_grows m.party new q (m.party q) (rule_all network r m h g) (h.ends q o) (n q o))
 
   -- so do all of them
   pub near_run : (rules : List Rule) (m : Machine) → Holds network m → AreNear m.party → IsLegal network rules m →

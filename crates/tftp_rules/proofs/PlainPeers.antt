@@ -1,13 +1,11 @@
 -- An end of the server was opened without options exactly if the first of its datagrams is no OACK.
 -- For BlamelessActions, and for the laws on blame of worlds (tftp_player) and of programs (tftp_promises).
-use Rattle.tftp_rules.proofs.Common.{◌≡◌, Bool, true, false, List, [], ◌∷◌, ◌++◌, Option, Some, None, refl, sym, ◌≢◌}
-use Rattle.tftp_rules.proofs.Common.{if◌then◌else◌, Contains, true≢false, Terms, Attests, Holds, Endpoint, At_server}
-use Rattle.tftp_rules.proofs.Common.{Elsewhere, Packet, Request, Data, Ack, Error, Message, Party, Machine, Network}
-use Rattle.tftp_rules.proofs.Common.{is_same, with_end, start, Rule, message, Guard, after, IsLegal, run, said}
-use Rattle.std.proofs.Common.{rules as std_rules}
+use Rattle.tftp_rules.proofs.Common.{◌≡◌, List, refl, sym, true, [], false, ◌∷◌, Some, Bool, ◌++◌, None, Option}
+use Rattle.tftp_rules.proofs.Common.{std_rules, true≢false, Contains, ◌≢◌, if◌then◌else◌, Terms, Holds, Attests}
+use Rattle.tftp_rules.proofs.Common.{Endpoint, Network, Message, Machine, Party, Elsewhere, with_end, start, Data}
+use Rattle.tftp_rules.proofs.Common.{Packet, Ack, Error, At_server, Request, is_same, Rule, message, after, run, Guard}
+use Rattle.tftp_rules.proofs.Common.{IsLegal, said, WirePacket}
 use Rattle.std.proofs.lemmas.List.Elements.{Contains-append_right}
-use Rattle.tftp_wire.specs.declared.packet.Packet.{Packet as WirePacket}
-use Rattle.tftp_wire.specs.declared.packet.Packet.TheVariants as wire
 use Rattle.tftp_rules.specs.Machine.{Oack}
 use Rattle.tftp_rules.proofs.ActionCases.{IsPlainAnswer}
 use Rattle.tftp_rules.proofs.Endpoints.{cases_same, same_other}

@@ -1,21 +1,17 @@
 -- Each rule of the machine preserves the record of the datagrams sent. For `every_run_is_safe` and Refines.
-use Rattle.std.proofs.lemmas.Grind.{common_steps as std_common_steps}
-use Rattle.tftp_rules.proofs.Common.{common_steps, ◌≡◌, ℕ, Bool, true, not, List, [], ◌∷◌, ◌++◌, Some, sym, ◌∙◌, subst}
-use Rattle.tftp_rules.proofs.Common.{arith, inl, inr, ◌≢◌, Contains, true≢false, cases_eq, Contains-append_cases}
-use Rattle.tftp_rules.proofs.Common.{Endpoint, Elsewhere, Packet, Request, Ack, Message, Party, Machine, with_end}
-use Rattle.tftp_rules.proofs.Common.{start, Network, Rule, Asks, Opens_plainly, Opens_with, Takes_oack, Takes_ack}
-use Rattle.tftp_rules.proofs.Common.{Takes_data, Appends, Sends_next, Completes, Fails, Fails_with, Fails_to_begin}
-use Rattle.tftp_rules.proofs.Common.{Repeats, Strays, message, actor, party_after, Guard, after, IsLegal, run, Holds}
-use Rattle.tftp_rules.proofs.Common.{taken, Data, block, if◌then◌else◌}
-use Rattle.std.proofs.Common.{rules as std_rules, arith as std_arith}
-use Rattle.std.proofs.lemmas.List.Elements.{Contains-append_left, Contains-push}
-use Rattle.tftp_wire.specs.declared.packet.Request.{Request as WireRequest}
+use Rattle.tftp_rules.proofs.Common.{◌≡◌, List, sym, true, [], ℕ, ◌∷◌, arith, ◌∙◌, Some, Bool, ◌++◌, subst, ◌+◌, inl}
+use Rattle.tftp_rules.proofs.Common.{inr, not, std_rules, std_arith, true≢false, cases_eq, common_steps}
+use Rattle.tftp_rules.proofs.Common.{std_common_steps, Contains-append_cases, Contains-append_left, Contains, ◌≢◌}
+use Rattle.tftp_rules.proofs.Common.{if◌then◌else◌, block, Holds, Endpoint, Network, Message, Machine, Party, Elsewhere}
+use Rattle.tftp_rules.proofs.Common.{with_end, start, Data, Packet, Ack, Request, Rule, message, after, Asks, run}
+use Rattle.tftp_rules.proofs.Common.{Opens_with, Guard, IsLegal, Opens_plainly, Takes_oack, Appends, Sends_next}
+use Rattle.tftp_rules.proofs.Common.{Completes, Fails, Repeats, Takes_ack, Takes_data, Fails_with, Fails_to_begin}
+use Rattle.tftp_rules.proofs.Common.{Strays, party_after, actor, taken, Waits, packets, WireRequest, AreRecorded}
+use Rattle.std.proofs.lemmas.List.Elements.{Contains-push}
 use Rattle.tftp_rules.specs.Machine.{Oack}
-use Rattle.tftp_rules.specs.Rules.{Waits, packets}
-use Rattle.tftp_rules.specs.Recorded.{IsRecorded, IsFirstAck, AreRecorded}
+use Rattle.tftp_rules.specs.Recorded.{IsRecorded, IsFirstAck}
 use Rattle.tftp_rules.proofs.Grows.{Grows, AllGrow-with, with_at, with_each}
-use Rattle.tftp_rules.proofs.Keeps.{accepting, keeps}
-use Rattle.tftp_rules.proofs.RulesGrow.{rule_grows}
+use Rattle.tftp_rules.proofs.Keeps.{accepting, keeps, rule_grows}
 
 module _ (network : Network) where
   -- with more datagrams sent
@@ -85,22 +81,11 @@ module _ (network : Network) where
   now_recorded (Takes_data at peer bytes) m r g o = waits _ at (m.party at) peer _ _ _ g.0
   now_recorded (Fails_to_begin at peer size) m r g o = waits _ at (m.party at) peer _ _ _ g.0
   now_recorded (Appends at peer bytes) m r g o =
-      let b = more m.sent _ at (m.party at) (r.ends at g.0.0) in record {
-        requested = b.requested;
-        oack = b.oack;
-        begun = λ c s f n p e. absurd (true≢false (sym s ∙ g.1));
-        ended = λ s d p e. absurd (true≢false (sym s ∙ g.1));
-      }
+      let b = more m.sent (message at peer (Ack ((m.party at).number + 1)) ∷ []) at (m.party at) (r.ends at g.0.0) in
+      search (std_rules, true≢false)
   now_recorded (Fails_with at peer bytes) m r g o =
-      let b = more m.sent _ at (m.party at) (r.ends at g.0.0) in record {
-        requested = b.requested;
-        oack = b.oack;
-        begun = b.begun;
-        ended = λ s d p e. absurd (true≢false (sym s ∙ g.1));
-      }
-  now_recorded (Fails at) m r g o =
-      let b = more m.sent _ at (m.party at) (r.ends at g.0) in
-      record { requested = b.requested; oack = b.oack; begun = b.begun; ended = b.ended }
+      let b = more m.sent [] at (m.party at) (r.ends at g.0.0) in search (std_rules, true≢false)
+  now_recorded (Fails at) m r g o = let b = more m.sent [] at (m.party at) (r.ends at g.0) in search std_rules
   now_recorded (Completes at peer) m r g o = search std_rules
   now_recorded (Sends_next at peer) m r g o =
       let old = m.party at in

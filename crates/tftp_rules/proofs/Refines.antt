@@ -1,24 +1,16 @@
 -- What is shown stays shown after a step, an opening or a datagram. For four functions, Actions, ViewSafe and the
 -- crates tftp_player and tftp_promises.
-use Rattle.std.proofs.Common.{rules as std_rules}
-use Rattle.tftp_rules.proofs.Common.{◌≡◌, ℕ, Bool, true, false, List, [], ◌∷◌, ◌++◌, length, set, Some, sym, refl, ap}
-use Rattle.tftp_rules.proofs.Common.{◌∙◌, subst, inl, inr, rules, ◌≢◌, ◌⊎◌, slice_get, cases_Bool, Endpoint, Message}
-use Rattle.tftp_rules.proofs.Common.{Party, Machine, start, Network, Spells, Holds, Rule, Asks, Opens_plainly}
-use Rattle.tftp_rules.proofs.Common.{Opens_with, actor, Guard, party_after, after, IsLegal, run, EndView, Matches}
-use Rattle.tftp_rules.proofs.Common.{Shows, IsShownAt, IsShownWithin, ActInTurn, party_then, sent_by}
-use Rattle.std.specs.Prelude.{◌≤◌}
-use Rattle.tftp_rules.specs.Machine.{nobody}
-use Rattle.tftp_wire.specs.declared.packet.Packet.{Packet as WirePacket}
-use Rattle.tftp_wire.specs.declared.packet.Request.{Request as WireRequest}
-use Rattle.tftp_rules.specs.Recorded.{AreRecorded}
-use Rattle.tftp_rules.specs.Rules.{MayAct, OpensNoDuplicate}
-use Rattle.tftp_rules.specs.Rules.{AreOver, packets}
-use Rattle.tftp_rules.specs.Shows.{party_of, requested, answered_by, HasRequest, IsInService}
-use Rattle.tftp_rules.specs.Shows.{AreApart, NoneAt}
-use Rattle.tftp_rules.specs.Shows.{IsShown, OpensEnd}
-use Rattle.tftp_rules.specs.Shows.{Speaks, NoneAnswers, AsksUnanswered}
+use Rattle.tftp_rules.proofs.Common.{◌≡◌, List, refl, sym, true, [], false, ℕ, rules, ◌∷◌, ◌∙◌, Some, Bool, ◌++◌, ap}
+use Rattle.tftp_rules.proofs.Common.{subst, length, ◌≤◌, inl, inr, set, std_rules, cases_Bool, ◌≢◌, ◌⊎◌, slice_get}
+use Rattle.tftp_rules.proofs.Common.{Spells, Holds, Endpoint, Network, Message, Machine, Party, start, nobody, Rule}
+use Rattle.tftp_rules.proofs.Common.{after, Asks, run, Opens_with, Guard, IsLegal, Opens_plainly, party_after, actor}
+use Rattle.tftp_rules.proofs.Common.{MayAct, packets, OpensNoDuplicate, AreOver, EndView, Matches, IsShownWithin}
+use Rattle.tftp_rules.proofs.Common.{sent_by, Shows, OpensEnd, AsksUnanswered, NoneAt, party_of, IsShown, requested}
+use Rattle.tftp_rules.proofs.Common.{WirePacket, WireRequest, AreRecorded}
+use Rattle.tftp_rules.specs.Shows.{answered_by, HasRequest, IsInService, AreApart, Speaks, NoneAnswers}
 use Rattle.tftp_rules.proofs.Acting.{Unshown, with_unshown, act_in_turn}
 use Rattle.tftp_rules.proofs.Endpoints.{cases_same}
+use Rattle.tftp_rules.specs.Refines.{EndsGoOn, EndsOpen, DatagramsAreAdded}
 use Rattle.tftp_rules.proofs.Grows.{Grows, with_at, with_other}
 use Rattle.tftp_rules.proofs.Indices.{slice_get-set_cases, slice_get-set_same, slice_get-set_other}
 use Rattle.tftp_rules.proofs.Indices.{slice_get-push_cases, slice_get-push_old, slice_get-push_new}
@@ -119,6 +111,11 @@ forgotten : (e : EndView) → HasRequest (record e { request = [] }) → (IsInSe
 forgotten e (inl busy) over = over busy
 forgotten e (inr shown) over = shown.1 refl
 
+-- the view is that of its end, and has its request
+abbrev IsSeen : Machine → EndView → Type 0
+IsSeen m y =
+    Matches y (m.party y.address) × (HasRequest y → Spells (answered_by (m.party y.address)) y.request)
+
 module _ (network : Network) where
   -- no ends and no datagrams are shown by the empty run
   pub shown_start : IsShown network [] []
@@ -147,11 +144,7 @@ module _ (network : Network) where
   shown_within few most first views messages fits shown = search rules
 
   -- an end that acts by some rules in turn stays shown
-  pub shown_acts : (first : List Rule) (views : List EndView) (messages : List Message) (k : ℕ) (e f : EndView)
-      (rs : List Rule) → IsShownAt network first views messages → slice_get views k ≡ Some e → e.failed ≡ false →
-      ActInTurn network rs e.address messages (party_of e) → f.address ≡ e.address → f.request ≡ e.request →
-      Matches f (party_then rs (party_of e)) →
-      IsShownWithin network (length rs) first (set views k f) (messages ++ sent_by network rs (party_of e))
+  pub shown_acts : EndsGoOn network
   shown_acts first views messages k e f rs shown at alive turns same asks matches =
       let m = run network first start in
       let s = shown.1 in
@@ -171,19 +164,16 @@ module _ (network : Network) where
       answered_by (n.party q)) (sym same)) (s.asked k e at (had_request e f x _ here now grows alive asks has)))) in
       let away : (j : ℕ) (y : EndView) → j ≢ k → slice_get views j ≡ Some y → y.address ≢ a =
       λ j y other i q. other (s.apart j k y e i at q) in
+      let each : (j : ℕ) (y : EndView) → slice_get (set views k f) j ≡ Some y → IsSeen n y =
+      λ j y i. elim (slice_get-set_cases _ k j f y i) [
+        | inl b ↦ rw (b.1) (at_new, asked_new)
+        | inr b ↦ rw (w.others y.address (away j y b.0 b.1)) (s.ends j y b.1, s.asked j y b.1)
+      ] in
       shown_after _ _ _ shown.0 _ acted.0 (record {
         sent = w.sent ∙ ap (λ (ds : List Message). ds ++ sent_by network rs (party_of e)) s.sent;
-        ends = λ j y i. elim (slice_get-set_cases _ k j f y i) [
-          | inl b ↦ rw (b.1) at_new
-          | inr b ↦ rw ((w.others y.address (away j y b.0 b.1))) (s.ends j y b.1)
-        ];
+        ends = λ j y i. (each j y i).0;
         apart = apart_set views k e f at same s.apart;
-        asked = λ j y i. elim (slice_get-set_cases _ k j f y i) [
-          | inl b ↦
-              rw (b.1) asked_new
-          | inr b ↦
-              λ has. (rw ((w.others y.address (away j y b.0 b.1))) (s.asked j y b.1 has))
-        ];
+        asked = λ j y i. (each j y i).1;
         only = λ b o. elim (cases_same b a) [
           | inl q ↦ (k, f, slice_get-set_same views k f e at, same ∙ sym q)
           | inr d ↦ let old = s.only b (rw (← w.others b d) o) in
@@ -238,11 +228,7 @@ module _ (network : Network) where
   opens_alike r o x = search rules
 
   -- an end that opens by a rule is shown
-  pub shown_opens : (first : List Rule) (views : List EndView) (messages : List Message) (f : EndView) (r : Rule) →
-      IsShownAt network first views messages → OpensEnd r → MayAct network r messages nobody →
-      f.address ≡ actor r → NoneAt views f.address → Matches f (party_after r nobody) →
-      AsksUnanswered r f.request views →
-      IsShownWithin network 1 first (views ++ f ∷ []) (messages ++ packets network r nobody)
+  pub shown_opens : EndsOpen network
   shown_opens first views messages f r shown opening may same none matches asks =
       let m = run network first start in
       let s = shown.1 in
@@ -256,6 +242,13 @@ module _ (network : Network) where
       ap n.party same ∙ (with_at m.party a (party_after r x) ∙ alike.0) in
       let away : (j : ℕ) (y : EndView) → slice_get views j ≡ Some y → y.address ≢ a =
       λ j y i q. none j y i (q ∙ sym same) in
+      let each : (j : ℕ) (y : EndView) → slice_get (views ++ f ∷ []) j ≡ Some y → IsSeen n y =
+      λ j y i. elim (slice_get-push_cases views j f y i) [
+        | inl b ↦
+            rw (with_other m.party a (party_after r x) y.address (away j y b)) (s.ends j y b, s.asked j y b)
+        | inr b ↦
+            rw (b.1) (rw (here) (matches, λ has. new_answer views f r opening asks matches (serves_by f has)))
+      ] in
       shown_after first (views ++ f ∷ []) (messages ++ packets network r nobody) shown.0 (r ∷ []) (
         guard,
         opens_no_duplicate views messages m r f.request s opening asks,
@@ -263,19 +256,9 @@ module _ (network : Network) where
       ) (record {
         sent = ap (λ (ds : List Message). ds ++ packets network r x) s.sent ∙ ap (λ (ds : List Message). messages ++ ds)
             alike.1;
-        ends = λ j y i. elim (slice_get-push_cases views j f y i) [
-          | inl b ↦
-              rw ((with_other m.party a (party_after r x) y.address (away j y b))) (s.ends j y b)
-          | inr b ↦
-              rw (b.1) (rw (here) matches)
-        ];
+        ends = λ j y i. (each j y i).0;
         apart = apart_push views f none s.apart;
-        asked = λ j y i. elim (slice_get-push_cases views j f y i) [
-          | inl b ↦
-              λ has. (rw ((with_other m.party a (party_after r x) y.address (away j y b))) (s.asked j y b has))
-          | inr b ↦
-              rw (b.1) (λ has. (rw (here) (new_answer views f r opening asks matches (serves_by f has))))
-        ];
+        asked = λ j y i. (each j y i).1;
         only = λ b o. elim (cases_same b a) [
           | inl q ↦ (length views, f, slice_get-push_new views f, same ∙ sym q)
           | inr d ↦
@@ -293,9 +276,7 @@ module _ (network : Network) where
   speaks_alike r o x = search rules
 
   -- a datagram that changes no end is shown
-  pub shown_speaks : (first : List Rule) (views : List EndView) (messages : List Message) (r : Rule) →
-      IsShownAt network first views messages → Speaks r → MayAct network r messages nobody →
-      IsShownWithin network 1 first views (messages ++ packets network r nobody)
+  pub shown_speaks : DatagramsAreAdded network
   shown_speaks first views messages r shown speaking may =
       let m = run network first start in
       let s = shown.1 in

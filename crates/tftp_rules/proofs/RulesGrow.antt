@@ -1,18 +1,15 @@
 -- What each run of the guarded machine keeps: how its ends go on, and where requests are sent.
 -- For the laws of worlds on recovery and on blame (tftp_player).
-use Rattle.tftp_rules.proofs.Common.{◌≡◌, ℕ, ◌≤◌, Bool, true, false, not, List, [], ◌∷◌, ◌++◌, Some, sym, refl, ◌∙◌}
-use Rattle.tftp_rules.proofs.Common.{arith, inl, inr, ◌≢◌, ◌⊎◌, if◌then◌else◌, Contains, true≢false}
-use Rattle.tftp_rules.proofs.Common.{Contains-append_cases, DEFAULT_BLOCK, Fits, Holds, Endpoint, Elsewhere, Packet}
-use Rattle.tftp_rules.proofs.Common.{Request, Data, Ack, Error, Message, Party, Machine, start, Network, Rule, Asks}
-use Rattle.tftp_rules.proofs.Common.{Opens_plainly, Opens_with, Takes_oack, Takes_ack, Takes_data, Appends, Sends_next}
-use Rattle.tftp_rules.proofs.Common.{Completes, Fails, Fails_with, Fails_to_begin, Says_error, Repeats, Strays, actor}
-use Rattle.tftp_rules.proofs.Common.{party_after, Guard, after, IsLegal, run}
-use Rattle.std.proofs.Common.{rules as std_rules}
-use Rattle.tftp_ends.proofs.RunMoves.{if_either}
+use Rattle.tftp_rules.proofs.Common.{◌≡◌, List, sym, true, [], false, ℕ, ◌∷◌, arith, ◌∙◌, Some, Bool, ◌++◌, ◌≤◌, inl}
+use Rattle.tftp_rules.proofs.Common.{inr, not, std_rules, true≢false, Contains-append_cases, Contains, ◌≢◌, ◌⊎◌}
+use Rattle.tftp_rules.proofs.Common.{DEFAULT_BLOCK, Fits, Holds, Endpoint, Network, Message, Machine, Party, Elsewhere}
+use Rattle.tftp_rules.proofs.Common.{start, Data, Packet, Ack, Error, Request, Rule, after, Asks, run, Opens_with}
+use Rattle.tftp_rules.proofs.Common.{Guard, IsLegal, Opens_plainly, Takes_oack, Appends, Sends_next, Completes, Fails}
+use Rattle.tftp_rules.proofs.Common.{Takes_ack, Takes_data, Fails_with, Fails_to_begin, party_after, actor, packets}
+use Rattle.tftp_rules.proofs.Common.{HasText}
 use Rattle.tftp_rules.specs.Machine.{Oack}
-use Rattle.tftp_rules.specs.Rules.{HasText}
-use Rattle.tftp_rules.proofs.Grows.{Grows, Grows-same, AllGrow, AllGrow-with, with_each}
-use Rattle.tftp_rules.proofs.Keeps.{keeps}
+use Rattle.tftp_rules.proofs.Grows.{Grows, Grows-same, AllGrow, with_each}
+use Rattle.tftp_rules.proofs.Keeps.{keeps, rule_all}
 use Rattle.tftp_rules.proofs.Steps.{none_sent, one_sent}
 
 -- ---- ends go on
@@ -20,11 +17,6 @@ grows_then : (x y z : Party) → Grows x y → Grows y z → Grows x z
 grows_then x y z g h = search std_rules
 
 module _ (network : Network) where
-  -- so does the acting end of a rule
-  pub rule_grows : (r : Rule) (m : Machine) → Holds network m → Guard network r m → (m.party (actor r)).is_open ≡ true →
-      Grows (m.party (actor r)) (party_after r (m.party (actor r)))
-  rule_grows r m h g o = search std_rules
-
   -- every end that is open goes on
   pub run_grows : (rules : List Rule) (m : Machine) → Holds network m → IsLegal network rules m →
       AllGrow m.party (run network rules m).party
@@ -32,7 +24,7 @@ module _ (network : Network) where
   run_grows (r ∷ rules) m h g = record {
     grows = λ q o.
         let first =
-        (AllGrow-with m.party (actor r) (party_after r (m.party (actor r))) (rule_grows r m h g.0)).grows q o in
+        (rule_all network r m h g.0).grows q o in
         let next = after network r m in
         grows_then (m.party q) (next.party q) ((run network rules next).party q) first
         ((run_grows rules next (keeps network r m h g.0) g.2).grows q first.is_open);
@@ -67,30 +59,16 @@ module _ (network : Network) where
   one_goes : (a : Message) → Goes a → GoToPort (a ∷ [])
   one_goes a h d i own is = one_sent Goes a h d i own is
 
-  rule_goes : (r : Rule) (m : Machine) → GoToPort m.sent → Guard network r m → GoToPort (after network r m).sent
-  rule_goes (Asks at write request text) m h g =
-      more_go m.sent _ h (one_goes _ (λ own is. refl))
-  rule_goes (Opens_plainly at peer write request text) m h g =
-      more_go m.sent _ h
-      (one_goes _ (λ own is. absurd (if_either (λ (k : Packet). IsRequest k → ⊥) write _ _ (λ _ z. z) (λ _ z. z) is)))
-  rule_goes (Opens_with at peer write request text size) m h g = more_go m.sent _ h (one_goes _ (λ own is. absurd is))
-  rule_goes (Takes_oack at peer size) m h g =
-      let x = m.party at in
-      more_go m.sent _ h
-      (one_goes _ (λ own is. absurd (if_either (λ (k : Packet). IsRequest k → ⊥) x.sender _ _ (λ _ z. z) (λ _ z. z) is)))
-  rule_goes (Takes_ack at peer) m h g = more_go m.sent _ h (one_goes _ (λ own is. absurd is))
-  rule_goes (Appends at peer bytes) m h g = more_go m.sent _ h (one_goes _ (λ own is. absurd is))
-  rule_goes (Sends_next at peer) m h g = more_go m.sent _ h (one_goes _ (λ own is. absurd is))
-  rule_goes (Says_error at to) m h g = more_go m.sent _ h (one_goes _ (λ own is. absurd is))
-  rule_goes (Repeats old) m h g = more_go m.sent _ h (one_goes old (λ own is. h old g own is))
-  rule_goes (Strays stray) m h g = more_go m.sent _ h (one_goes stray (λ own is. absurd (own g)))
-  rule_goes r m h g = more_go m.sent [] h none_go
+  -- so does what a rule sends
+  sent_goes : (r : Rule) (m : Machine) → GoToPort m.sent → Guard network r m →
+      GoToPort (packets network r (m.party (actor r)))
+  sent_goes r m h g = search (std_rules, one_goes, none_go)
 
   -- rules keep that
   pub run_goes : (rules : List Rule) (m : Machine) → GoToPort m.sent → IsLegal network rules m →
       GoToPort (run network rules m).sent
   run_goes [] m h g = h
-  run_goes (r ∷ rules) m h g = run_goes rules (after network r m) (rule_goes r m h g.0) g.2
+  run_goes (r ∷ rules) m h g = run_goes rules (after network r m) (more_go m.sent _ h (sent_goes r m h g.0)) g.2
 
   -- nothing is sent at the start
   pub start_goes : GoToPort start.sent

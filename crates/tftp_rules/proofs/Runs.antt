@@ -1,8 +1,7 @@
 -- Every run of the machine preserves the invariant, and the invariant implies that it is safe. For
 -- `every_run_is_safe`, four other files and the crate tftp_player.
-use Rattle.tftp_rules.proofs.Common.{◌≡◌, List, [], ◌∷◌, ◌++◌, refl, Machine, start, Network, Rule, IsLegal, run, after}
-use Rattle.tftp_rules.proofs.Common.{Holds}
-use Rattle.std.proofs.Common.{rules as std_rules}
+use Rattle.tftp_rules.proofs.Common.{◌≡◌, List, refl, [], ◌∷◌, ◌++◌, std_rules, Holds, Network, Machine, start, Rule}
+use Rattle.tftp_rules.proofs.Common.{after, run, IsLegal}
 use Rattle.tftp_rules.specs.MachineSafety.{IsSafeMachine}
 use Rattle.tftp_rules.proofs.Keeps.{keeps}
 

@@ -1,27 +1,22 @@
 -- What the bytes of a datagram say: one packet at most, and a valid packet what it spells. For eight other files and
 -- the crates tftp_player and tftp_promises.
-use Rattle.tftp_rules.proofs.Common.{◌≡◌, ℕ, ◌^◌, ◌<◌, Bool, true, false, List, [], ◌∷◌, ◌++◌, Option, Some, Result, Ok}
-use Rattle.tftp_rules.proofs.Common.{Err, refl, ap, ◌∙◌, arith, drop, rules, AllByRecursion, Mode, RawOption, Spells}
-use Rattle.tftp_rules.proofs.Common.{IsValid, canonical, Asked, Kind, Known, Refusal, size, agreement, Decodes}
-use Rattle.tftp_rules.proofs.Common.{oack_size}
-use Rattle.std.proofs.Common.{cond}
-use Rattle.std.proofs.Common.{decimal, rules as std_rules}
+use Rattle.tftp_rules.proofs.Common.{◌≡◌, List, refl, true, [], false, ℕ, rules, ◌∷◌, arith, ◌∙◌, Some, Bool, ◌++◌, ap}
+use Rattle.tftp_rules.proofs.Common.{◌<◌, Option, Ok, drop, Result, Err, ◌^◌, std_rules, cond, AllByRecursion, Spells}
+use Rattle.tftp_rules.proofs.Common.{IsValid, canonical, Mode, RawOption, size, IsAgreeable, agreed_options, agreement}
+use Rattle.tftp_rules.proofs.Common.{Asked, Kind, Known, Refusal, Decodes, oack_size, WirePacket, Timeout, Tsize}
+use Rattle.tftp_rules.proofs.Common.{name_of, number_of, Name, numbers_are_printed}
+use Rattle.std.proofs.Common.{decimal}
 use Rattle.std.specs.Prelude.{option_to_list}
 use Rattle.std.specs.Str.{str_to_ascii_lowercase}
-use Rattle.tftp_wire.specs.declared.packet.Packet.{Packet as WirePacket}
 use Rattle.tftp_wire.specs.declared.packet.Packet.TheVariants.{Data}
 use Rattle.tftp_wire.specs.Spelling.{word_of}
-use Rattle.tftp_negotiate.specs.declared.known.Kind.TheVariants as kinds
-use Rattle.tftp_negotiate.specs.declared.known.Known.TheVariants as known
-use Rattle.tftp_negotiate.specs.declared.name.Name.{Name}
-use Rattle.tftp_negotiate.specs.declared.name.Name.TheVariants.{Blksize, Timeout, Tsize}
+use Rattle.tftp_negotiate.specs.declared.name.Name.TheVariants.{Blksize}
 use Rattle.tftp_negotiate.specs.declared.refusal.Refusal.TheVariants.{Repeated}
-use Rattle.tftp_negotiate.specs.Options.{name_of, number_of, name_text}
+use Rattle.tftp_negotiate.specs.Options.{name_text}
 use Rattle.tftp_negotiate.specs.Negotiation.{kept_before, each_judged}
-use Rattle.tftp_negotiate.specs.Agreed.{IsAgreeable, agreed_options}
 use Rattle.tftp_negotiate.specs.Agreement.{taken, taken_option}
-use Rattle.tftp_negotiate.proofs.LawsLemmas.{numbers_are_printed}
 use Rattle.tftp_rules.specs.Said.{stated_as, stated_options}
+use Rattle.tftp_negotiate.specs.declared.known.Known.TheVariants as known
 
 lower_word : (p : WirePacket) → str_to_ascii_lowercase (word_of p) ≡ word_of p
 lower_word p = search rules

@@ -1,32 +1,27 @@
 -- A receiver whose sink stores a block or commits. For BlamelessActions, PhaseMoves, WaitingMoves and the crate
 -- tftp_player.
-use Rattle.std.proofs.Common.{rules as std_rules}
-use Rattle.tftp_rules.proofs.Common.{◌≡◌, ℕ, ◌^◌, ◌<◌, Bool, true, false, List, [], ◌∷◌, ◌++◌, length, set, Some}
-use Rattle.tftp_rules.proofs.Common.{Result, Ok, Err, sym, refl, ap, ◌∙◌, subst, inl, inr, append_assoc, rules, ◌&&◌}
-use Rattle.tftp_rules.proofs.Common.{if◌then◌else◌, nat_lt, true≢false, cases_Bool, append-nil, same_Some, Mode, Octet}
-use Rattle.tftp_rules.proofs.Common.{Netascii, StoreFault, Files, Source, Sink, IsPrefixOf, wire_text, Holding}
-use Rattle.tftp_rules.proofs.Common.{SinkMeaning, SourceMeaning, ErrorReply, Outcome, Fresh, Phase, Receiving, Dallying}
-use Rattle.tftp_rules.proofs.Common.{Terms, EndState, is_sender, is_complete, Turn, StoresIn, sent_turn, refused_turn}
-use Rattle.tftp_rules.proofs.Common.{is_readable, Endpoint, Error, Message, Network, Rule, message, EndView}
-use Rattle.tftp_rules.proofs.Common.{IsShownWithin, OpenEnd, files_of, end_after, goes_on, has_failed, open_view}
-use Rattle.tftp_rules.proofs.Common.{known_source, known_sink, EndKept, PhaseKept, Goes}
-use Rattle.std.specs.Prelude.{not}
+use Rattle.tftp_rules.proofs.Common.{◌≡◌, List, refl, sym, true, [], false, ℕ, rules, ◌∷◌, ◌∙◌, Some, Bool, ◌++◌, ap}
+use Rattle.tftp_rules.proofs.Common.{subst, length, ◌<◌, inl, inr, Ok, not, Result, Err, set, ◌^◌, append_assoc}
+use Rattle.tftp_rules.proofs.Common.{std_rules, true≢false, cases_Bool, append-nil, same_Some, if◌then◌else◌, nat_lt}
+use Rattle.tftp_rules.proofs.Common.{◌&&◌, Mode, Octet, Netascii, IsPrefixOf, wire_text, Holding, SinkMeaning}
+use Rattle.tftp_rules.proofs.Common.{SourceMeaning, StoreFault, Files, Source, Sink, is_sender, EndState, is_complete}
+use Rattle.tftp_rules.proofs.Common.{Turn, StoresIn, sent_turn, refused_turn, GoesOn, Done, committed_turn}
+use Rattle.tftp_rules.proofs.Common.{commit_reply, holding, ack_bytes, is_readable, ends_in_cr, ErrorReply, Outcome}
+use Rattle.tftp_rules.proofs.Common.{Fresh, Phase, Receiving, Dallying, Terms, EndKept, PhaseKept, HeldBackFits, Goes}
+use Rattle.tftp_rules.proofs.Common.{known_source, known_sink, Endpoint, Network, Message, Error, Says_ack, OpenEnd}
+use Rattle.tftp_rules.proofs.Common.{open_view, files_of, end_after, has_failed, goes_on, text_of_end, holding_of, Rule}
+use Rattle.tftp_rules.proofs.Common.{message, EndView, IsShownWithin}
 use Rattle.tftp_wire.specs.declared.packet.Packet.TheVariants.{Ack}
-use Rattle.tftp_file.specs.declared.fault.StoreFault.TheVariants as faults
-use Rattle.tftp_file.specs.Sink.{UnlessArmed, Appends, AppendsFreely, CommitsFreely, KeptPrefix}
-use Rattle.tftp_file.specs.Sink.{disarmed}
-use Rattle.tftp_ends.specs.declared.error_reply.ErrorReply.TheVariants as replies
-use Rattle.tftp_ends.specs.declared.outcome.Outcome.TheVariants as outcomes
+use Rattle.tftp_file.specs.Sink.{UnlessArmed, Appends, AppendsFreely, CommitsFreely, KeptPrefix, disarmed}
 use Rattle.tftp_ends.specs.End.{number_of}
-use Rattle.tftp_ends.specs.Step.{Done, Appended, Committed, GoesOn, Stores}
-use Rattle.tftp_ends.specs.Step.{committed_turn, commit_reply, holding, ack_bytes}
-use Rattle.tftp_ends.specs.Text.{Decoded, ends_in_cr}
-use Rattle.tftp_rules.specs.Machine.{Ack as Says_ack}
-use Rattle.tftp_rules.specs.OpenEnds.{holding_of, text_of as text_of_end}
-use Rattle.tftp_rules.specs.EndKept.{HeldBackFits}
+use Rattle.tftp_ends.specs.Step.{Appended, Committed, Stores}
+use Rattle.tftp_ends.specs.Text.{Decoded}
 use Rattle.tftp_rules.proofs.StoredTexts.{stored_more, stored_some}
 use Rattle.tftp_rules.proofs.SaidLemmas.{spells_own}
 use Rattle.tftp_rules.proofs.EndMoves.{error_says, going_live}
+use Rattle.tftp_file.specs.declared.fault.StoreFault.TheVariants as faults
+use Rattle.tftp_ends.specs.declared.error_reply.ErrorReply.TheVariants as replies
+use Rattle.tftp_ends.specs.declared.outcome.Outcome.TheVariants as outcomes
 
 -- the effect of a block's bytes on a sink: all of them were stored, or a prefix
 pub data Took (before after : Holding) (bytes : List ℕ) (answer : Result Done StoreFault) : Type 0 where
@@ -177,163 +172,157 @@ module _ (network : Network) where
         }))
         (messages ++ message x.address from Error ∷ [])
 
-  module _ (first : List Rule) (views : List EndView) (messages : List Message) (k : ℕ) (x : OpenEnd) (terms : Terms)
-      (number : ℕ) (from : Endpoint) (piece : List ℕ)
-      (kept : EndKept network x) (r : Receives first views messages k x terms number from piece) where
-    -- what it has of its peer's text
-    pub wire_text_is : text_of_end x ≡ wire_text x.state.role.mode x.stored ++ x.state.position.held_back
-    wire_text_is = search rules
+module _ {network : Network} {first : List Rule} {views : List EndView} {messages : List Message} {k : ℕ} {x : OpenEnd}
+    {terms : Terms} {number : ℕ} {from : Endpoint} {piece : List ℕ} (kept : EndKept network x)
+    (r : Receives network first views messages k x terms number from piece) where
+  -- after this turn, which leaves the sink so, the end is shown
+  abbrev Leaves : Turn → Holding → Type 0
+  Leaves turn sink = Goes network first views messages k x turn (end_after x turn (Sink sink))
 
-    uncommitted : x.committed ≡ false
-    uncommitted = kept.committed r.receiver ∙ r.incomplete
+  -- the block has been decoded to this, and what is held back then
+  abbrev Holds_back : List ℕ → List ℕ → Type 0
+  Holds_back more after = Decoded x.state.role.mode x.state.position.held_back piece more after
 
-    -- the text, with the block
-    more_text : (more after : List ℕ) → Decoded x.state.role.mode x.state.position.held_back piece more after →
-        text_of_end x ++ piece ≡ wire_text x.state.role.mode (x.stored ++ more) ++ after
-    more_text more after d = search (rules, wire_text_is, stored_more, goes_on_with)
+  -- what it has of its peer's text
+  pub wire_text_is : text_of_end x ≡ wire_text x.state.role.mode x.stored ++ x.state.position.held_back
+  wire_text_is = search rules
 
-    -- the store refused it
-    pub refused_goes : (held : List ℕ) (sink : Holding) (reply : ErrorReply) (outcome : Outcome) →
-        HeldBackFits x.state.role.mode held → sink.committed ≡ false →
-        IsPrefixOf (wire_text x.state.role.mode sink.bytes) (text_of_end x ++ piece) →
-        let turn = refused_turn terms reply outcome from (holding held x.state) in
-        Goes network first views messages k x turn (end_after x turn (Sink sink))
-    refused_goes held sink reply outcome fits un begins =
-        let turn = refused_turn terms reply outcome from (holding held x.state) in
-        let y = end_after x turn (Sink sink) in
-        let t = text_else _ x.text (wire_text x.state.role.mode sink.bytes) r.receiver in
-        let shown_now = r.refused (text_of_end y) (rw (t) begins) in
-        search (rules, error_says, true≢false)
+  uncommitted : x.committed ≡ false
+  uncommitted = kept.committed r.receiver ∙ r.incomplete
 
-    failed_not : has_failed x.state.position.phase ≡ false
-    failed_not = (going_live x.state.position.phase r.going).1
+  -- the text, with the block
+  more_text : (more after : List ℕ) → Holds_back more after →
+      text_of_end x ++ piece ≡ wire_text x.state.role.mode (x.stored ++ more) ++ after
+  more_text more after d = search (rules, wire_text_is, stored_more, goes_on_with)
 
-    -- the block is acknowledged: stored, or stored and committed
-    abbrev Acknowledged : Bool → Bool → List ℕ → Type 0
-    Acknowledged done failed t =
-        IsShownWithin network 3 first
-        (set views k (record (open_view x) {
-          peer = Some terms.peer;
-          size = terms.size;
-          number = number;
-          complete = done;
-          failed = failed;
-          text = t;
-        })) (messages ++ message x.address from (Says_ack number) ∷ [])
+  -- the store refused it
+  pub refused_goes : (held : List ℕ) (sink : Holding) (reply : ErrorReply) (outcome : Outcome) →
+      HeldBackFits x.state.role.mode held → sink.committed ≡ false →
+      IsPrefixOf (wire_text x.state.role.mode sink.bytes) (text_of_end x ++ piece) →
+      Leaves (refused_turn terms reply outcome from (holding held x.state)) sink
+  refused_goes held sink reply outcome fits un begins =
+      let turn = refused_turn terms reply outcome from (holding held x.state) in
+      let y = end_after x turn (Sink sink) in
+      let t = text_else _ x.text (wire_text x.state.role.mode sink.bytes) r.receiver in
+      let shown_now = r.refused (text_of_end y) (rw (t) begins) in
+      search (rules, error_says, true≢false)
 
-    acknowledged : (more after : List ℕ) → Decoded x.state.role.mode x.state.position.held_back piece more after →
-        (t : List ℕ) → wire_text x.state.role.mode (x.stored ++ more) ++ after ≡ t → (done : Bool) →
-        nat_lt (length piece) terms.size ≡ done → Acknowledged done false t
-    acknowledged more after d t text done last = search (rules, failed_not, more_text)
+  failed_not : has_failed x.state.position.phase ≡ false
+  failed_not = (going_live x.state.position.phase r.going).1
 
-    -- the end in its next phase
-    stored_goes : (phase : Phase) (sink : Holding) (more after : List ℕ) →
-        Decoded x.state.role.mode x.state.position.held_back piece more after →
-        let turn = sent_turn phase from (ack_bytes number) (holding after x.state) in
-        let y = end_after x turn (Sink sink) in
-        IsShownWithin network 3 first (set views k (open_view y))
-        (messages ++ message x.address from (Says_ack number) ∷ []) →
-        PhaseKept network y phase → sink.committed ≡ is_complete phase → Goes network first views messages k x turn y
-    stored_goes phase sink more after d shown_now phase_kept committed = record {
-      said_now = message x.address from (Says_ack number) ∷ [];
-      shown = shown_now;
-      replies = (Ack number, spells_own (Ack number) r.fits, refl);
-      kept = search rules;
-      side = refl;
-      last_sent = inr refl;
-      stored = λ c. absurd (true≢false (sym c ∙ r.incomplete));
-    }
+  -- the block is acknowledged: stored, or stored and committed
+  abbrev Acknowledged : Bool → Bool → List ℕ → Type 0
+  Acknowledged done failed t =
+      IsShownWithin network 3 first
+      (set views k (record (open_view x) {
+        peer = Some terms.peer;
+        size = terms.size;
+        number = number;
+        complete = done;
+        failed = failed;
+        text = t;
+      })) (messages ++ message x.address from (Says_ack number) ∷ [])
 
-    next_goes : (sink : Holding) (more after : List ℕ) → sink.bytes ≡ x.stored ++ more → sink.committed ≡ false →
-        Decoded x.state.role.mode x.state.position.held_back piece more after →
-        nat_lt (length piece) terms.size ≡ false →
-        let turn = sent_turn (Receiving terms number) from (ack_bytes number) (holding after x.state) in
-        Goes network first views messages k x turn (end_after x turn (Sink sink))
-    next_goes sink more after bytes un d last =
-        let turn = sent_turn (Receiving terms number) from (ack_bytes number) (holding after x.state) in
-        let y = end_after x turn (Sink sink) in
-        let text : wire_text x.state.role.mode (x.stored ++ more) ++ after ≡ text_of_end y = search rules
-        in
-        search (std_rules, stored_goes, acknowledged, false)
+  acknowledged : (more after : List ℕ) → Holds_back more after → (t : List ℕ) →
+      wire_text x.state.role.mode (x.stored ++ more) ++ after ≡ t → (done : Bool) →
+      nat_lt (length piece) terms.size ≡ done → Acknowledged done false t
+  acknowledged more after d t text done last = search (rules, failed_not, more_text)
 
-    whole_goes : Readable x terms piece → (sink : Holding) (more after : List ℕ) → sink.bytes ≡ x.stored ++ more →
-        sink.committed ≡ true → Decoded x.state.role.mode x.state.position.held_back piece more after →
-        nat_lt (length piece) terms.size ≡ true →
-        let turn = sent_turn (Dallying terms number Fresh) from (ack_bytes number) (holding after x.state) in
-        Goes network first views messages k x turn (end_after x turn (Sink sink))
-    whole_goes readable sink more after bytes done d last =
-        let turn = sent_turn (Dallying terms number Fresh) from (ack_bytes number) (holding after x.state) in
-        let y = end_after x turn (Sink sink) in
-        let none : after ≡ [] = search (std_rules, none_held, is_readable, true) in
-        let text : wire_text x.state.role.mode (x.stored ++ more) ++ after ≡ text_of_end y = search rules
-        in
-        stored_goes (Dallying terms number Fresh) sink more after d (acknowledged more after d (text_of_end y) text true
-        last) (r.receiver, r.peer) done
+  -- the turn of the end into its next phase
+  abbrev stored_turn : Phase → List ℕ → Turn
+  stored_turn phase after = sent_turn phase from (ack_bytes number) (holding after x.state)
 
-    -- after a commit
-    commit_goes : Readable x terms piece → (mid sink : Holding) (more after : List ℕ) (turn : Turn) →
-        mid.bytes ≡ x.stored ++ more → mid.committed ≡ false →
-        Decoded x.state.role.mode x.state.position.held_back piece more after →
-        nat_lt (length piece) terms.size ≡ true →
-        Committed known_sink terms number from (holding after x.state) mid turn sink →
-        Goes network first views messages k x turn (end_after x turn (Sink sink))
-    commit_goes readable mid sink more after turn bytes un d last c =
-        by_commit c.answer c.answers (kept_by mid.refuses mid sink c.answer c.commits) where
-          by_commit : (answer : Result Done StoreFault) →
-              turn ≡ committed_turn terms number from (holding after x.state) answer → Kept_all mid sink answer →
-              Goes network first views messages k x turn (end_after x turn (Sink sink))
-          by_commit answer t (For_good ok same done) =
-              let turn_is = t ∙ ap (committed_turn terms number from (holding after x.state)) ok in
-              subst (λ (z : Turn). Goes network first views messages k x z (end_after x z (Sink sink))) (sym turn_is)
-              (whole_goes readable sink more after (same ∙ bytes) done d last)
-          by_commit answer t (Not_yet fault err same still) =
-              let turn_is = t ∙ ap (committed_turn terms number from (holding after x.state)) err in
-              let begins : IsPrefixOf (wire_text x.state.role.mode sink.bytes) (text_of_end x ++ piece) = (
-                after,
-                ap (λ (z : List ℕ). wire_text x.state.role.mode z ++ after) (same ∙ bytes)
-                    ∙ sym (more_text more after d),
-              ) in
-              rw (turn_is) (refused_goes after sink (commit_reply fault) outcomes.StoreFault
-              (held_fits x.state.role.mode x.state.position.held_back piece more after kept.held_back d)
-              (still ∙ un) begins)
+  stored_goes : (phase : Phase) (sink : Holding) (more after : List ℕ) → Holds_back more after →
+      let y = end_after x (stored_turn phase after) (Sink sink) in
+      IsShownWithin network 3 first (set views k (open_view y))
+      (messages ++ message x.address from (Says_ack number) ∷ []) →
+      PhaseKept network y phase → sink.committed ≡ is_complete phase → Leaves (stored_turn phase after) sink
+  stored_goes phase sink more after d shown_now phase_kept committed = record {
+    said_now = message x.address from (Says_ack number) ∷ [];
+    shown = shown_now;
+    replies = (Ack number, spells_own (Ack number) r.fits, refl);
+    kept = search rules;
+    side = refl;
+    last_sent = inr refl;
+    stored = λ c. absurd (true≢false (sym c ∙ r.incomplete));
+  }
 
-    -- after an append
-    append_goes : Readable x terms piece →
-        (mid sink : Holding) (more after : List ℕ) (turn : Turn) (answer : Result Done StoreFault) (last : Bool) →
-        nat_lt (length piece) terms.size ≡ last →
-        Decoded x.state.role.mode x.state.position.held_back piece more after → Took (holding_of x) mid more answer →
-        GoesOn known_sink terms number from x.state last after mid answer turn sink →
-        Goes network first views messages k x turn (end_after x turn (Sink sink))
-    append_goes readable mid sink more after turn (Err f) last is d (All_of_it ok same un) h = absurd (let e = ok in cc)
-    append_goes readable mid sink more after turn (Ok u) last is d (Some_of_it fault kept_bytes err prefix same un) h
-        = absurd (let e = err in cc)
-    append_goes readable mid sink more after turn (Err f) last is d (Some_of_it fault kept_bytes err prefix same un) h =
-        let begun = stored_some x.state.role.mode x.stored kept_bytes more prefix in
-        let begins : IsPrefixOf (wire_text x.state.role.mode mid.bytes) (text_of_end x ++ piece) = (
-          begun.0 ++ after,
-          ap (λ (z : List ℕ). wire_text x.state.role.mode z ++ (begun.0 ++ after)) same ∙ (sym (append_assoc (wire_text
-              x.state.role.mode (x.stored ++ kept_bytes)) begun.0 after) ∙ (ap (λ (z : List ℕ). z ++ after) begun.1 ∙
-              sym (more_text more after d))),
-        ) in
-        rw (h.1) (subst (λ (t : Turn). Goes network first views messages k x t (end_after x t (Sink mid))) (sym h.0)
-        (refused_goes x.state.position.held_back mid replies.DiskFull outcomes.StoreFault kept.held_back (un
-        uncommitted) begins))
-    append_goes readable mid sink more after turn (Ok u) true is d (All_of_it ok same un) h =
-        commit_goes readable _ _ _ _ _ same (un uncommitted) d is h
-    append_goes readable mid sink more after turn (Ok u) false is d (All_of_it ok same un) h =
-        rw (h.1) (subst (λ (t : Turn). Goes network first views messages k x t (end_after x t (Sink mid))) (sym h.0)
-        (next_goes mid more after same (un uncommitted) d is))
+  next_goes : (sink : Holding) (more after : List ℕ) → sink.bytes ≡ x.stored ++ more → sink.committed ≡ false →
+      Holds_back more after → nat_lt (length piece) terms.size ≡ false →
+      Leaves (stored_turn (Receiving terms number) after) sink
+  next_goes sink more after bytes un d last =
+      let y = end_after x (stored_turn (Receiving terms number) after) (Sink sink) in
+      let text : wire_text x.state.role.mode (x.stored ++ more) ++ after ≡ text_of_end y = search rules in
+      search (std_rules, stored_goes, acknowledged, false)
 
-    -- an action that stores has gone on
-    pub block_goes : Readable x terms piece → (turn : Turn) (held : Files (List ℕ) Holding) →
-        StoresIn known_source known_sink terms number from piece x.state (files_of x) turn held →
-        Goes network first views messages k x turn (end_after x turn held)
-    block_goes readable turn held h =
-        let f =
-        stores_in (is_sender x.state.role.side) r.receiver known_source known_sink terms number from piece x.state
-        x.left (holding_of x) turn held h in
-        let b = f.2 in
-        subst (λ (fs : Files (List ℕ) Holding). Goes network first views messages k x turn (end_after x turn fs))
-        (sym f.1)
-        (append_goes readable b.mid f.0 b.bytes b.after turn b.answer (nat_lt (length piece) terms.size) refl b.decoded
-        (took known_sink (λ holding. refl) (holding_of x) b.mid b.bytes b.answer b.appended) b.rest)
+  whole_goes : Readable x terms piece → (sink : Holding) (more after : List ℕ) → sink.bytes ≡ x.stored ++ more →
+      sink.committed ≡ true → Holds_back more after → nat_lt (length piece) terms.size ≡ true →
+      Leaves (stored_turn (Dallying terms number Fresh) after) sink
+  whole_goes readable sink more after bytes done d last =
+      let y = end_after x (stored_turn (Dallying terms number Fresh) after) (Sink sink) in
+      let none : after ≡ [] = search (std_rules, none_held, is_readable, true) in
+      let text : wire_text x.state.role.mode (x.stored ++ more) ++ after ≡ text_of_end y = search rules in
+      stored_goes (Dallying terms number Fresh) sink more after d (acknowledged more after d (text_of_end y) text true
+      last) (r.receiver, r.peer) done
+
+  -- after a commit
+  commit_goes : Readable x terms piece → (mid sink : Holding) (more after : List ℕ) (turn : Turn) →
+      mid.bytes ≡ x.stored ++ more → mid.committed ≡ false → Holds_back more after →
+      nat_lt (length piece) terms.size ≡ true →
+      Committed known_sink terms number from (holding after x.state) mid turn sink → Leaves turn sink
+  commit_goes readable mid sink more after turn bytes un d last c =
+      by_commit c.answer c.answers (kept_by mid.refuses mid sink c.answer c.commits) where
+        by_commit : (answer : Result Done StoreFault) →
+            turn ≡ committed_turn terms number from (holding after x.state) answer → Kept_all mid sink answer →
+            Leaves turn sink
+        by_commit answer t (For_good ok same done) =
+            let turn_is = t ∙ ap (committed_turn terms number from (holding after x.state)) ok in
+            subst (λ (z : Turn). Leaves z sink) (sym turn_is)
+            (whole_goes readable sink more after (same ∙ bytes) done d last)
+        by_commit answer t (Not_yet fault err same still) =
+            let turn_is = t ∙ ap (committed_turn terms number from (holding after x.state)) err in
+            let begins : IsPrefixOf (wire_text x.state.role.mode sink.bytes) (text_of_end x ++ piece) = (
+              after,
+              ap (λ (z : List ℕ). wire_text x.state.role.mode z ++ after) (same ∙ bytes)
+                  ∙ sym (more_text more after d),
+            ) in
+            rw (turn_is) (refused_goes after sink (commit_reply fault) outcomes.StoreFault
+            (held_fits x.state.role.mode x.state.position.held_back piece more after kept.held_back d)
+            (still ∙ un) begins)
+
+  -- after an append
+  append_goes : Readable x terms piece →
+      (mid sink : Holding) (more after : List ℕ) (turn : Turn) (answer : Result Done StoreFault) (last : Bool) →
+      nat_lt (length piece) terms.size ≡ last → Holds_back more after → Took (holding_of x) mid more answer →
+      GoesOn known_sink terms number from x.state last after mid answer turn sink → Leaves turn sink
+  append_goes readable mid sink more after turn (Err f) last is d (All_of_it ok same un) h = absurd (let e = ok in cc)
+  append_goes readable mid sink more after turn (Ok u) last is d (Some_of_it fault kept_bytes err prefix same un) h =
+      absurd (let e = err in cc)
+  append_goes readable mid sink more after turn (Err f) last is d (Some_of_it fault kept_bytes err prefix same un) h =
+      let begun = stored_some x.state.role.mode x.stored kept_bytes more prefix in
+      let begins : IsPrefixOf (wire_text x.state.role.mode mid.bytes) (text_of_end x ++ piece) = (
+        begun.0 ++ after,
+        ap (λ (z : List ℕ). wire_text x.state.role.mode z ++ (begun.0 ++ after)) same ∙ (sym (append_assoc (wire_text
+            x.state.role.mode (x.stored ++ kept_bytes)) begun.0 after) ∙ (ap (λ (z : List ℕ). z ++ after) begun.1 ∙
+            sym (more_text more after d))),
+      ) in
+      rw (h.1) (subst (λ (t : Turn). Leaves t mid) (sym h.0) (refused_goes x.state.position.held_back mid
+      replies.DiskFull outcomes.StoreFault kept.held_back (un uncommitted) begins))
+  append_goes readable mid sink more after turn (Ok u) true is d (All_of_it ok same un) h =
+      commit_goes readable _ _ _ _ _ same (un uncommitted) d is h
+  append_goes readable mid sink more after turn (Ok u) false is d (All_of_it ok same un) h =
+      rw (h.1) (subst (λ (t : Turn). Leaves t mid) (sym h.0) (next_goes mid more after same (un uncommitted) d is))
+
+  -- an action that stores has gone on
+  pub block_goes : Readable x terms piece → (turn : Turn) (held : Files (List ℕ) Holding) →
+      StoresIn known_source known_sink terms number from piece x.state (files_of x) turn held →
+      Goes network first views messages k x turn (end_after x turn held)
+  block_goes readable turn held h =
+      let f =
+      stores_in (is_sender x.state.role.side) r.receiver known_source known_sink terms number from piece x.state
+      x.left (holding_of x) turn held h in
+      let b = f.2 in
+      subst (λ (fs : Files (List ℕ) Holding). Goes network first views messages k x turn (end_after x turn fs))
+      (sym f.1)
+      (append_goes readable b.mid f.0 b.bytes b.after turn b.answer (nat_lt (length piece) terms.size) refl b.decoded
+      (took known_sink (λ holding. refl) (holding_of x) b.mid b.bytes b.answer b.appended) b.rest)

@@ -1,30 +1,27 @@
 -- A sender whose source gives the next block. For BlamelessTurns, PhaseMoves, WaitingMoves and the crates tftp_player
 -- and tftp_promises.
-use Rattle.std.proofs.lemmas.Grind.{common_steps}
-use Rattle.tftp_rules.proofs.Common.{◌≡◌, ℕ, ◌+◌, ◌*◌, ◌-◌, ◌^◌, ◌<◌, ◌≤◌, Bool, true, false, List, [], ◌∷◌, length}
-use Rattle.tftp_rules.proofs.Common.{drop, Some, Result, Ok, Err, sym, refl, ap, ◌∙◌, subst, arith, inl, inr, rules}
-use Rattle.tftp_rules.proofs.Common.{◌≢◌, ◌⊎◌, if◌then◌else◌, Contains, true≢false, eq-eqb, length-take, same_Some}
-use Rattle.tftp_rules.proofs.Common.{MAX_BLOCK, IsValid, SourceMeaning, Files, Source, Sink, block, block_count, Fits}
-use Rattle.tftp_rules.proofs.Common.{Holding, SinkMeaning, Sending, Terms, Complete, EndState, is_sender, Turn}
-use Rattle.tftp_rules.proofs.Common.{response_turn, SendsFrom, sent_turn, refused_turn, block_length, after_turn}
-use Rattle.tftp_rules.proofs.Common.{with_position, Endpoint, Message, Network, Rule, message, said, EndView, OpenEnd}
-use Rattle.tftp_rules.proofs.Common.{files_of, in_state, end_after, open_view, with_phase, known_source, known_sink}
-use Rattle.tftp_rules.proofs.Common.{EndKept, Stands, Goes}
-use Rattle.std.proofs.Common.{min, arith as std_arith}
-use Rattle.std.proofs.lemmas.List.{length-drop, drop_min, drop-drop}
+use Rattle.tftp_rules.proofs.Common.{◌≡◌, List, refl, sym, true, [], false, ℕ, rules, ◌∷◌, arith, ◌∙◌, Some, Bool, ap}
+use Rattle.tftp_rules.proofs.Common.{subst, length, ◌+◌, ◌<◌, ◌≤◌, inl, inr, ◌*◌, Ok, drop, Result, Err, ◌^◌, min}
+use Rattle.tftp_rules.proofs.Common.{std_arith, true≢false, eq-eqb, common_steps, length-take, length-drop, same_Some}
+use Rattle.tftp_rules.proofs.Common.{Contains, ◌≢◌, if◌then◌else◌, ◌⊎◌, IsValid, MAX_BLOCK, block, block_count, Fits}
+use Rattle.tftp_rules.proofs.Common.{Holding, SinkMeaning, SourceMeaning, Files, Source, Sink, is_sender, EndState}
+use Rattle.tftp_rules.proofs.Common.{Turn, SendsFrom, block_length, sent_turn, refused_turn, after_turn}
+use Rattle.tftp_rules.proofs.Common.{result_count_is, data_bytes, Complete, Sending, Terms, EndKept, Goes, IsOpenAt}
+use Rattle.tftp_rules.proofs.Common.{known_source, known_sink, Endpoint, Network, Message, Says_ack, OpenEnd, open_view}
+use Rattle.tftp_rules.proofs.Common.{files_of, in_state, end_after, with_phase, text_of_end, holding_of, received_text}
+use Rattle.tftp_rules.proofs.Common.{Rule, message, IsAcked, said, EndView, party_of}
+use Rattle.std.proofs.Common.{◌-◌}
+use Rattle.std.proofs.lemmas.List.{drop_min, drop-drop}
 use Rattle.tftp_wire.specs.declared.packet.Packet.TheVariants.{Data}
 use Rattle.tftp_file.specs.declared.fault.FileFault.{FileFault}
 use Rattle.tftp_file.specs.Source.{Fills}
+use Rattle.tftp_ends.specs.Step.{Sends, filled_turn}
+use Rattle.tftp_rules.proofs.Actions.{sends, completes}
+use Rattle.tftp_rules.proofs.EndMoves.{Responding, responded}
+use Rattle.tftp_rules.proofs.SaidLemmas.{spells_own}
 use Rattle.tftp_file.specs.declared.fault.FileFault.TheVariants as file_faults
 use Rattle.tftp_ends.specs.declared.error_reply.ErrorReply.TheVariants as replies
 use Rattle.tftp_ends.specs.declared.outcome.Outcome.TheVariants as outcomes
-use Rattle.tftp_ends.specs.Step.{after, Sends, data_bytes}
-use Rattle.tftp_ends.specs.Step.{filled_turn, result_count_is}
-use Rattle.tftp_rules.specs.Machine.{Ack as Says_ack}
-use Rattle.tftp_rules.specs.OpenEnds.{holding_of, text_of as text_of_end}
-use Rattle.tftp_rules.specs.OpenEnds.{received_text}
-use Rattle.tftp_rules.proofs.Actions.{sends, completes}
-use Rattle.tftp_rules.proofs.SaidLemmas.{spells_own}
 
 -- a source of known text was asked for block n + 1, after the n blocks that it gave
 pub record BlockSent (terms : Terms) (n : ℕ) (from : Endpoint) (e : EndState) (text : List ℕ) (turn : Turn)
@@ -133,38 +130,39 @@ text_if false f r e = absurd (true≢false (sym e))
 abbrev pub failed_turn : Terms → Endpoint → OpenEnd → Turn
 failed_turn terms from x = refused_turn terms replies.FileChanged outcomes.SourceFault from x.state
 
-module _ (network : Network) where
-  -- what its source has left then does not matter
-  failed_goes : (first : List Rule) (views : List EndView) (messages : List Message) (k : ℕ) (x : OpenEnd)
-      (terms : Terms) (from : Endpoint) (left : List ℕ) →
-      Goes network first views messages k x (failed_turn terms from x)
-      (in_state (after_turn x.state (failed_turn terms from x)) x) →
-      Goes network first views messages k x (failed_turn terms from x)
-      (end_after x (failed_turn terms from x) (Source left))
-  failed_goes first views messages k x terms from left g = search rules
+module _ {network : Network} where
+  module _ {first : List Rule} {views : List EndView} {messages : List Message} {k : ℕ} {x : OpenEnd} (terms : Terms)
+      (n : ℕ) (from : Endpoint) where
+    -- what its source has left then does not matter
+    failed_goes : (left : List ℕ) →
+        Goes network first views messages k x (failed_turn terms from x)
+        (in_state (after_turn x.state (failed_turn terms from x)) x) →
+        Goes network first views messages k x (failed_turn terms from x)
+        (end_after x (failed_turn terms from x) (Source left))
+    failed_goes left g = search rules
 
-  -- an action that sends has sent the next block, or the source failed
-  pub data_goes : (first : List Rule) (views : List EndView) (messages : List Message) (k : ℕ) (x : OpenEnd)
-      (terms : Terms) (n : ℕ) (from : Endpoint) (turn : Turn) (held : Files (List ℕ) Holding) →
-      is_sender x.state.role.side ≡ true → x.state.role.length ≡ length x.text → x.left ≡ drop (n * terms.size) x.text →
-      Goes network first views messages k x (data_turn x terms n from) (data_end x terms n from) →
-      Goes network first views messages k x (failed_turn terms from x)
-      (in_state (after_turn x.state (failed_turn terms from x)) x) →
-      SendsFrom known_source known_sink terms (n + 1) from x.state (files_of x) turn held →
-      Goes network first views messages k x turn (end_after x turn held)
-  data_goes first views messages k x terms n from turn held sender measured remaining_is g failed h =
-      let f = sends_from (is_sender x.state.role.side) sender known_source known_sink terms (n + 1) from x.state x.left
-      (holding_of x) turn held h in
-      subst (λ fs. Goes network first views messages k x turn (end_after x turn fs)) (sym f.1) (elim (block_sent
-      known_source (λ text. refl) terms n from x.state x.text x.left turn f.0 measured remaining_is f.2) [
-        | inl b ↦
-            subst (λ t. Goes network first views messages k x t (end_after x t (Source f.0))) (sym b.turn_is)
-            (subst (λ l. Goes network first views messages k x (data_turn x terms n from) (end_after x (data_turn x
-            terms n from) (Source l))) (sym b.left_is) g)
-        | inr b ↦
-            subst (λ t. Goes network first views messages k x t (end_after x t (Source f.0))) (sym b.turn_is)
-            (failed_goes first views messages k x terms from f.0 failed)
-      ])
+    -- an action that sends has sent the next block, or the source failed
+    pub data_goes : is_sender x.state.role.side ≡ true → x.state.role.length ≡ length x.text →
+        x.left ≡ drop (n * terms.size) x.text →
+        Goes network first views messages k x (data_turn x terms n from) (data_end x terms n from) →
+        Goes network first views messages k x (failed_turn terms from x)
+        (in_state (after_turn x.state (failed_turn terms from x)) x) →
+        (turn : Turn) (held : Files (List ℕ) Holding) →
+        SendsFrom known_source known_sink terms (n + 1) from x.state (files_of x) turn held →
+        Goes network first views messages k x turn (end_after x turn held)
+    data_goes sender measured remaining_is g failed turn held h =
+        let f = sends_from (is_sender x.state.role.side) sender known_source known_sink terms (n + 1) from x.state
+        x.left (holding_of x) turn held h in
+        subst (λ fs. Goes network first views messages k x turn (end_after x turn fs)) (sym f.1) (elim (block_sent
+        known_source (λ text. refl) terms n from x.state x.text x.left turn f.0 measured remaining_is f.2) [
+          | inl b ↦
+              subst (λ t. Goes network first views messages k x t (end_after x t (Source f.0))) (sym b.turn_is)
+              (subst (λ l. Goes network first views messages k x (data_turn x terms n from) (end_after x (data_turn x
+              terms n from) (Source l))) (sym b.left_is) g)
+          | inr b ↦
+              subst (λ t. Goes network first views messages k x t (end_after x t (Source f.0))) (sym b.turn_is)
+              (failed_goes f.0 failed)
+        ])
 
   -- the sender's state after a block is kept
   pub data_kept : (x : OpenEnd) (terms : Terms) (n : ℕ) (from : Endpoint) → EndKept network x →
@@ -174,55 +172,48 @@ module _ (network : Network) where
       EndKept network (data_end x terms n from)
   data_kept x terms n from kept measured sender positive small fits l peer = search rules
 
-  module _ (first : List Rule) (views : List EndView) (messages : List Message) (k : ℕ) (x0 : OpenEnd) (terms : Terms)
-      (n : ℕ)
-      (s : Stands network first views messages k (open_view (with_phase (Sending terms n) x0)))
-      (kept : EndKept network (with_phase (Sending terms n) x0)) where
+  module _ {first : List Rule} {views : List EndView} {messages : List Message} {k : ℕ} (x0 : OpenEnd) (terms : Terms)
+      (n : ℕ) (h : IsOpenAt network first views messages k (with_phase (Sending terms n) x0)) (from : Endpoint)
+      (peer : terms.peer ≡ from) (acked : Contains messages (message from x0.address (Says_ack n))) where
+    abbrev x : OpenEnd
+    x = with_phase (Sending terms n) x0
+
     -- what it sends is shown
-    text_is : text_of_end (with_phase (Sending terms n) x0) ≡ x0.text
-    text_is = text_if (is_sender x0.state.role.side) x0.text _ kept.phase.sender
+    text_is : text_of_end x ≡ x0.text
+    text_is = text_if (is_sender x0.state.role.side) x0.text _ h.kept.phase.sender
+
+    acks : IsAcked messages (party_of (open_view x)) x0.address from
+    acks = ((refl, refl, refl), h.kept.phase.sender, ap Some peer, acked)
 
     -- the next block is sent
-    pub sends_next : (from : Endpoint) → terms.peer ≡ from → Contains messages (message from x0.address (Says_ack n)) →
-        n < block_count x0.text terms.size →
-        Goes network first views messages k (with_phase (Sending terms n) x0)
-        (data_turn (with_phase (Sending terms n) x0) terms n from)
-        (data_end (with_phase (Sending terms n) x0) terms n from)
-    sends_next from peer acked more =
-        let x = with_phase (Sending terms n) x0 in
-        let u = kept.phase in
+    pub sends_next : n < block_count x0.text terms.size →
+        Goes network first views messages k x (data_turn x terms n from) (data_end x terms n from)
+    sends_next more =
+        let u = h.kept.phase in
         let text = x.text in
         let l : n + 1 ≤ block_count text terms.size = omega arith in
         let packet = Data (n + 1) (block text terms.size (n + 1)) in
-        let room : n < block_count (text_of_end x) terms.size =
-        subst (λ (t : List ℕ). n < block_count t terms.size) (sym text_is) more in
-        let shown_now = sends _ _ _ _ k _ s _ (refl, refl) u.sender (ap Some peer) acked room in
+        let shown_now = sends h.stands from
+        (acks, subst (λ (t : List ℕ). n < block_count t terms.size) (sym text_is) more) in
         record {
           said_now = message x.address from (said packet) ∷ [];
           shown = search (rules, text_is);
           replies = (packet, spells_own _ (valid_data _ _ n u.positive u.size u.fits l), refl);
-          kept = data_kept x _ n _ kept u.measured u.sender u.positive u.size u.fits l (sym peer);
+          kept = data_kept x _ n _ h.kept u.measured u.sender u.positive u.size u.fits l (sym peer);
           side = refl;
           last_sent = inr refl;
           stored = λ _. refl;
         }
 
     -- the last block is acknowledged
-    pub ends_whole : (from : Endpoint) → terms.peer ≡ from → Contains messages (message from x0.address (Says_ack n)) →
-        n ≡ block_count x0.text terms.size →
-        Goes network first views messages k (with_phase (Sending terms n) x0)
-        (response_turn Complete from (with_phase (Sending terms n) x0).state)
-        (in_state (with_position (after Complete from (with_phase (Sending terms n) x0).state)
-        (with_phase (Sending terms n) x0).state) (with_phase (Sending terms n) x0))
-    ends_whole from peer acked last =
-        let x = with_phase (Sending terms n) x0 in
-        let u = kept.phase in
-        let text = x.text in
-        let whole = subst (λ (t : List ℕ). n ≡ block_count t terms.size) (sym text_is) last in
-        let shown_now =
-        completes network first views messages k (open_view x) s from (refl, refl) u.sender (ap Some peer) acked whole
-        in
-        let y = in_state (with_position (after Complete from x.state) x.state) x in
+    pub ends_whole : n ≡ block_count x0.text terms.size →
+        Responding network first views messages k x Complete from
+    ends_whole last =
+        let kept = h.kept in
+        let shown_now = completes h.stands from
+        (acks, subst (λ (t : List ℕ). n ≡ block_count t terms.size) (sym text_is) last) in
+        let y = responded x Complete from in
         let still =
-        text_is ∙ sym (text_if (is_sender x.state.role.side) text (received_text y.state y.stored) u.sender) in
+        text_is ∙ sym (text_if (is_sender x0.state.role.side) x.text (received_text y.state y.stored)
+        h.kept.phase.sender) in
         search rules

@@ -1,8 +1,7 @@
 -- Examples of the standards, computed from the definitions; no proof cites them.
-use Rattle.tftp_rules.proofs.Common.{◌≡◌, [], ◌∷◌, refl, oack_size}
+use Rattle.tftp_rules.proofs.Common.{◌≡◌, refl, [], ◌∷◌, oack_size, name_of, number_of}
 use Rattle.std.specs.Prelude.{codes}
 use Rattle.std.specs.Fmt.{digits}
-use Rattle.tftp_negotiate.specs.Options.{name_of, number_of}
 
 -- the block size of the standard's example, granted (RFC 2348, "Blocksize Option Specification")
 example_size : oack_size (record { name = codes "blksize"; value = codes "1428" } ∷ []) ≡ 1428

@@ -1,11 +1,9 @@
 -- Small facts on rules: whose datagram one is, and the hosts. For 13 other files and the crates tftp_player and
 -- tftp_promises.
-use Rattle.std.proofs.Common.{rules as std_rules}
-use Rattle.tftp_rules.proofs.Common.{◌≡◌, ℕ, ◌+◌, ◌*◌, ◌<◌, ◌≤◌, Bool, true, false, not, List, [], ◌∷◌, length, take}
-use Rattle.tftp_rules.proofs.Common.{Some, None, sym, refl, ap, ◌∙◌, arith, rules, ◌≢◌, Contains, true≢false, block}
-use Rattle.tftp_rules.proofs.Common.{Endpoint, At_server, At_client, Elsewhere, Message, Party, Machine, Network}
-use Rattle.tftp_rules.proofs.Common.{HasReceived, IsSoundParty, Holds}
-use Rattle.tftp_rules.specs.Rules.{IsNext}
+use Rattle.tftp_rules.proofs.Common.{◌≡◌, List, refl, sym, true, [], false, ℕ, rules, ◌∷◌, arith, ◌∙◌, Some, Bool, ap}
+use Rattle.tftp_rules.proofs.Common.{length, ◌+◌, ◌<◌, ◌≤◌, None, ◌*◌, not, take, std_rules, true≢false, Contains, ◌≢◌}
+use Rattle.tftp_rules.proofs.Common.{block, Holds, HasReceived, IsSoundParty, Endpoint, Network, Message, Machine}
+use Rattle.tftp_rules.proofs.Common.{Party, Elsewhere, At_server, At_client, IsNext}
 use Rattle.tftp_rules.specs.Facts.{home}
 use Rattle.tftp_rules.specs.MachineSafety.{Established}
 

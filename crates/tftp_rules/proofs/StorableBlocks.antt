@@ -1,48 +1,15 @@
 -- The next block of a text is stored: it is short enough, not the last but one, and readable.
--- For BlamelessActions.
-use Rattle.std.proofs.Common.{rules as std_rules}
-use Rattle.tftp_rules.proofs.Common.{◌≡◌, ℕ, ◌+◌, ◌*◌, ◌<◌, ◌≤◌, Bool, true, false, not, List, ◌++◌, length, take, drop}
-use Rattle.tftp_rules.proofs.Common.{Some, refl, sym, ap, ◌∙◌, arith, rules, ◌≢◌, ◌==◌, nat_lt, ◌&&◌, true≢false}
-use Rattle.tftp_rules.proofs.Common.{eq-eqb, Mode, block, block_count, Fits, wire_text, Terms, is_wrong_peer}
-use Rattle.tftp_rules.proofs.Common.{is_readable, Endpoint}
-use Rattle.std.proofs.lemmas.List.{take-append-drop}
+-- For BlamelessActions, EndTurns and the crate tftp_player.
+use Rattle.tftp_rules.proofs.Common.{◌≡◌, List, true, false, ℕ, rules, arith, ◌∙◌, Some, ◌++◌, ap, length, ◌+◌, ◌<◌}
+use Rattle.tftp_rules.proofs.Common.{◌≤◌, ◌*◌, drop, take, std_rules, take-append-drop, nat_lt, Mode, block}
+use Rattle.tftp_rules.proofs.Common.{block_count, Fits, wire_text, is_wrong_peer, is_readable, Terms, Endpoint}
 use Rattle.tftp_rules.proofs.Blocks.{take-block}
 use Rattle.tftp_rules.proofs.NextBlocks.{piece_readable, block_within, never_long, last_rest}
-
--- ---- small facts
--- the parts of a true conjunction are true
-pub and_true : (a b : Bool) → (a && b) ≡ true → (a ≡ true) × (b ≡ true)
-and_true true b e = (refl, e)
-and_true false b e = absurd (true≢false (sym e))
-
--- the second of two tests failed
-pub and_false : (a b : Bool) → (a && b) ≡ false → a ≡ true → b ≡ false
-and_false true b e a = e
-and_false false b e a = absurd (true≢false (sym a))
-
--- one whose negation fails
-pub not_false : (b : Bool) → not b ≡ false → b ≡ true
-not_false true e = refl
-not_false false e = absurd (true≢false e)
-
--- a test whose negation fails
-pub from_not : (b : Bool) → false ≡ not b → b ≡ true
-from_not true e = refl
-from_not false e = absurd (true≢false (sym e))
 
 -- the peer of an end is no wrong peer
 pub the_peer : (terms : Terms) (to from : Endpoint) → is_wrong_peer (Some terms) to from ≡ false → terms.peer ≡ from
 the_peer terms to from right = search rules
 
--- numbers that are not the same
-pub differs : (a b : ℕ) → (a == b) ≡ false → a ≢ b
-differs a b e f = true≢false (sym (eq-eqb a b f) ∙ e)
-
--- no number lies between two that follow one another
-pub by_one : (j n : ℕ) → n ≤ j → j ≤ n + 1 → j ≢ n → j ≢ n + 1 → ⊥
-by_one j n low high a b = search rules
-
--- ---- the next block of a text is stored
 -- it is short enough, and can be read if what is sent is the text of a file
 pub record IsStorable (IsText : Type 0) (mode : Mode) (held : List ℕ) (size number : ℕ) (piece : List ℕ) : Type 0 where
   pub within : length piece ≤ size

@@ -1,15 +1,13 @@
 -- The terms that an end has after a turn: its own, or those of an answer.
 -- For PlainPeers, and for the laws of worlds on blame (tftp_player).
-use Rattle.tftp_rules.proofs.Common.{◌≡◌, ℕ, Bool, false, List, Option, Some, None, subst, rules, same_Some, Known}
-use Rattle.tftp_rules.proofs.Common.{Holding, SinkMeaning, SourceMeaning, Files, Action, Respond, Send, Store, Response}
-use Rattle.tftp_rules.proofs.Common.{Refuse, Accept, Terms, EndState, terms_of, Decodes, is_wrong_peer, Turn}
-use Rattle.tftp_rules.proofs.Common.{response_turn, timeout_turn, default_terms, agreed_terms, Endpoint}
+use Rattle.tftp_rules.proofs.Common.{◌≡◌, List, false, ℕ, rules, Some, Bool, subst, None, Option, same_Some, Known}
+use Rattle.tftp_rules.proofs.Common.{Holding, SinkMeaning, SourceMeaning, Files, is_wrong_peer, Decodes, EndState}
+use Rattle.tftp_rules.proofs.Common.{terms_of, Position, Turn, response_turn, timeout_turn, DatagramStep, default_terms}
+use Rattle.tftp_rules.proofs.Common.{agreed_terms, Action, Respond, Send, Store, Response, Refuse, Accept, Terms}
+use Rattle.tftp_rules.proofs.Common.{Endpoint}
 use Rattle.tftp_wire.specs.declared.packet.Packet.{Packet}
-use Rattle.tftp_ends.specs.End.{Position}
-use Rattle.tftp_ends.specs.Step.{DatagramStep}
 use Rattle.tftp_rules.proofs.ActionCases.{IsPlainAnswer, HasTerms, MayTake, datagram_takes}
-use Rattle.tftp_rules.proofs.TurnCases.{TurnBy, Responds, Sends_data, Cannot_read, Has_stored, Has_all, Cannot_append}
-use Rattle.tftp_rules.proofs.TurnCases.{Cannot_commit, acts_by}
+use Rattle.tftp_rules.proofs.TurnCases.{TurnBy, Responds, acts_by}
 
 module _ (P : Terms → Type 0) where
   abbrev Are : Option Terms → Type 0
@@ -55,12 +53,7 @@ module _ (P : Terms → Type 0) where
   turn_has : (from : Endpoint) (e : EndState) (action : Action) (turn : Turn) → Names action → Has e.position →
       TurnBy from e action turn → Has turn.position
   turn_has from e action turn s h (Responds response) = response_has response from e s h
-  turn_has from e action turn s h (Sends_data terms n piece) = are_some terms s
-  turn_has from e action turn s h (Cannot_read terms n) = are_some terms s
-  turn_has from e action turn s h (Has_stored terms n after positive) = are_some terms s
-  turn_has from e action turn s h (Has_all terms n after) = are_some terms s
-  turn_has from e action turn s h (Cannot_append terms n) = are_some terms s
-  turn_has from e action turn s h (Cannot_commit terms n after fault) = are_some terms s
+  turn_has from e action turn s h t = search (rules, are_some)
 
   module _ (sources : SourceMeaning (List ℕ)) (sinks : SinkMeaning Holding) (from : Endpoint) (bytes : List ℕ)
       (e : EndState) where

@@ -1,15 +1,13 @@
 -- The turns by which an open end carries out an action.
 -- For TermsTaken, and for the laws of worlds (tftp_player).
-use Rattle.tftp_rules.proofs.Common.{◌≡◌, ℕ, Bool, true, false, List, Result, Ok, Err, sym, subst, rules, ◌≢◌}
-use Rattle.tftp_rules.proofs.Common.{if◌then◌else◌, Holding, SinkMeaning, SourceMeaning, StoreFault, Files, Source}
-use Rattle.tftp_rules.proofs.Common.{Sink, Action, Respond, Send, Store, Response, Fresh, Sending, Receiving, Dallying}
-use Rattle.tftp_rules.proofs.Common.{Terms, EndState, Turn, Acts, SendsFrom, StoresIn, response_turn, sent_turn}
-use Rattle.tftp_rules.proofs.Common.{refused_turn, block_length, Endpoint}
-use Rattle.tftp_ends.proofs.RunMoves.{if_either}
+use Rattle.tftp_rules.proofs.Common.{◌≡◌, List, sym, true, false, ℕ, rules, Bool, subst, Ok, Result, Err, ◌≢◌, Holding}
+use Rattle.tftp_rules.proofs.Common.{SinkMeaning, SourceMeaning, StoreFault, Files, Source, Sink, EndState, Turn}
+use Rattle.tftp_rules.proofs.Common.{response_turn, Acts, SendsFrom, StoresIn, block_length, sent_turn, refused_turn}
+use Rattle.tftp_rules.proofs.Common.{GoesOn, Done, committed_turn, commit_reply, result_count_is, holding, ack_bytes}
+use Rattle.tftp_rules.proofs.Common.{data_bytes, Action, Respond, Send, Store, Response, Fresh, Sending, Receiving}
+use Rattle.tftp_rules.proofs.Common.{Dallying, Terms, Endpoint, if_either}
 use Rattle.tftp_ends.specs.declared.error_reply.ErrorReply.TheVariants.{DiskFull, FileChanged}
 use Rattle.tftp_ends.specs.declared.outcome.Outcome.TheVariants as outcomes
-use Rattle.tftp_ends.specs.Step.{GoesOn, Done}
-use Rattle.tftp_ends.specs.Step.{committed_turn, commit_reply, result_count_is, holding, ack_bytes, data_bytes}
 
 -- a turn of the end that carries out this action, on a datagram from there
 pub data TurnBy (from : Endpoint) (e : EndState) : Action → Turn → Type 0 where

@@ -1,21 +1,15 @@
 -- An end that has blamed no peer, and knows whether its peer was opened without options, does so after each turn.
 -- For the law on blame of programs (tftp_promises).
-use Rattle.tftp_rules.proofs.Common.{◌≡◌, ℕ, true, false, List, ◌++◌, Option, Some, None, refl, sym, ap, ◌∙◌, subst}
-use Rattle.tftp_rules.proofs.Common.{◌≢◌, option_map, slice_get, Contains, true≢false, same_Some, Spells, Mode, Asked}
-use Rattle.tftp_rules.proofs.Common.{wire_text, Holding, Files, Outcome, Phase, Waiting, Terms, EndState, is_sender}
-use Rattle.tftp_rules.proofs.Common.{is_client, outcome_of, terms_of, Decodes, is_wrong_peer, same_address, Turn}
-use Rattle.tftp_rules.proofs.Common.{after_turn, timeout_turn, default_terms, EndKept, IsFromServer, IsThere, Attests}
-use Rattle.tftp_rules.proofs.Common.{Holds, known_source, known_sink, Endpoint, Elsewhere, Machine, Message, Network}
-use Rattle.tftp_rules.proofs.Common.{Party, start, OpenEnd, files_of, open_view, Rule, message, run, said, EndView}
-use Rattle.tftp_rules.proofs.Common.{IsShownAt, Matches}
-use Rattle.std.proofs.Common.{rules as std_rules}
-use Rattle.std.specs.Prelude.{⊤}
+use Rattle.tftp_rules.proofs.Common.{◌≡◌, List, refl, sym, true, false, ℕ, ◌∙◌, Some, ◌++◌, ap, subst, None, Option}
+use Rattle.tftp_rules.proofs.Common.{std_rules, true≢false, same_Some, Contains, ◌≢◌, slice_get, option_map, ⊤, Spells}
+use Rattle.tftp_rules.proofs.Common.{Mode, Asked, wire_text, Holding, Files, is_wrong_peer, Decodes, same_address}
+use Rattle.tftp_rules.proofs.Common.{is_sender, EndState, terms_of, outcome_of, is_client, Turn, timeout_turn}
+use Rattle.tftp_rules.proofs.Common.{after_turn, DatagramStep, default_terms, Outcome, Phase, Waiting, Terms, EndKept}
+use Rattle.tftp_rules.proofs.Common.{IsFromServer, IsAnswer, IsThere, Holds, Attests, known_source, known_sink}
+use Rattle.tftp_rules.proofs.Common.{Endpoint, Network, Message, Machine, Party, Elsewhere, start, OpenEnd, open_view}
+use Rattle.tftp_rules.proofs.Common.{files_of, Rule, message, run, said, EndView, Matches, IsShownAt, one_meaning}
 use Rattle.tftp_wire.specs.declared.packet.Packet.{Packet}
-use Rattle.tftp_wire.proofs.SpellingLemmas.{one_meaning}
-use Rattle.tftp_ends.specs.declared.outcome.Outcome.TheVariants as outcomes
 use Rattle.tftp_ends.specs.declared.role.Role.{Role}
-use Rattle.tftp_ends.specs.Step.{DatagramStep}
-use Rattle.tftp_rules.specs.EndKept.{IsAnswer}
 use Rattle.tftp_rules.proofs.ActionCases.{IsPlainAnswer}
 use Rattle.tftp_rules.proofs.BlamelessActions.{datagram_fine}
 use Rattle.tftp_rules.proofs.BlamelessTurns.{Blameless, IsCalm, acts_blameless}
@@ -24,6 +18,7 @@ use Rattle.tftp_rules.proofs.PlainPeers.{start_opens}
 use Rattle.tftp_rules.proofs.Runs.{Holds-start, Holds-run}
 use Rattle.tftp_rules.proofs.Steps.{own_of, own_server, server_end}
 use Rattle.tftp_rules.proofs.TermsTaken.{step_are}
+use Rattle.tftp_ends.specs.declared.outcome.Outcome.TheVariants as outcomes
 
 -- which outcomes of an end blame its peer there: no netascii does if what that peer sends is the text of a file, and a
 -- fault of a source if the end sends nothing

@@ -1,8 +1,7 @@
 -- Ends that are shown are safe, as the machine is. For `texts_go_on`, `what_is_shown_is_safe` and the crates
 -- tftp_player and tftp_promises.
-use Rattle.tftp_rules.proofs.Common.{common_steps, ◌≡◌, true, List, [], ◌∷◌, ◌++◌, sym, refl, ◌∙◌, arith, rules}
-use Rattle.tftp_rules.proofs.Common.{Endpoint, Message, Machine, Network, EndView, Matches, Shows}
-use Rattle.tftp_rules.specs.Shows.{IsShown}
+use Rattle.tftp_rules.proofs.Common.{◌≡◌, List, refl, sym, true, [], rules, ◌∷◌, arith, ◌∙◌, ◌++◌, common_steps}
+use Rattle.tftp_rules.proofs.Common.{Endpoint, Network, Message, Machine, EndView, Matches, Shows, IsShown}
 use Rattle.tftp_rules.specs.Texts.{PrefixesJoin, OnlyNothingBeginsNothing}
 use Rattle.tftp_rules.specs.MachineSafety.{party_view}
 use Rattle.tftp_rules.specs.Safety.{IsSenderAt}

@@ -1,6 +1,5 @@
 -- An endpoint with neither address is at neither host.
-use Rattle.tftp_rules.proofs.Common.{Bool, ap, sym, ◌∙◌, ◌&&◌, client_ip, is_same_ip}
-use Rattle.std.specs.Prelude.{not}
+use Rattle.tftp_rules.proofs.Common.{sym, ◌∙◌, Bool, ap, not, ◌&&◌, client_ip, is_same_ip}
 use Rattle.tftp_rules.proofs.HostLemmas.{foreign_by}
 use Rattle.tftp_rules.proofs.hosts.is_foreign.Goals as goal
 

@@ -1,5 +1,5 @@
 -- The lemmas that are the law.
-use Rattle.std.proofs.Common.{rules as std_rules}
+use Rattle.tftp_rules.proofs.Common.{std_rules}
 use Rattle.tftp_rules.specs.Rules.{start}
 use Rattle.tftp_rules.proofs.RecordedKept.{recorded_run, recorded_start}
 use Rattle.tftp_rules.proofs.Runs.{Holds-start, Holds-run, IsSafeMachine-holds}

@@ -1,11 +1,10 @@
 -- A read with a block size, by the rules.
-use Rattle.tftp_rules.proofs.Common.{◌≡◌, Bool, true, false, sym, List, [], ◌∷◌, refl, rules, Octet, if◌then◌else◌}
-use Rattle.tftp_rules.proofs.Common.{true≢false, client_ip, Endpoint, is_same, At_server, At_client, start, Rule, Asks}
-use Rattle.tftp_rules.proofs.Common.{Opens_with, Takes_oack, Sends_next, Appends, Completes, IsLegal, asking, after}
-use Rattle.tftp_wire.specs.declared.packet.Request.{Request as WireRequest}
-use Rattle.tftp_rules.specs.Hosts.{server_ip, host_of, two_hosts}
-use Rattle.tftp_rules.specs.Machine.{nobody}
-use Rattle.tftp_rules.specs.Rules.{IsOpenedBy, AreOver}
+use Rattle.tftp_rules.proofs.Common.{◌≡◌, List, refl, sym, true, [], false, rules, ◌∷◌, Bool, true≢false, if◌then◌else◌}
+use Rattle.tftp_rules.proofs.Common.{Octet, client_ip, server_ip, host_of, Endpoint, start, At_server, At_client}
+use Rattle.tftp_rules.proofs.Common.{is_same, nobody, Rule, after, Asks, Opens_with, IsLegal, Takes_oack, Appends}
+use Rattle.tftp_rules.proofs.Common.{Sends_next, Completes, asking, AreOver, WireRequest}
+use Rattle.tftp_rules.specs.Hosts.{two_hosts}
+use Rattle.tftp_rules.specs.Rules.{IsOpenedBy}
 use Rattle.tftp_rules.proofs.laws.some_run_completes.Goals as goal
 
 -- the client's end
