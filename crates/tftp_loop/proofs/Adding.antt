@@ -47,7 +47,8 @@ request_adds s from left =
     replied_adds (answering_port s.requests left.opened.tid) left.opened.to left.sent s.events
 
 module _ {S F D : Type 0} (meaning : StoreMeaning S D) (sources : SourceMeaning F) where
-  port_adds : (now : ℕ) (old new : PortState S F D) → PortStep meaning sources now old new → Adds old.events new.events
+  -- a step at a port only adds events
+  pub port_adds : (now : ℕ) (old new : PortState S F D) → PortStep meaning sources now old new → Adds old.events new.events
   port_adds now old new (A_datagram d) =
       let received = Received old.timer.port d.from d.bytes ∷ old.events in
       adds_to old.events _ new.events d.handles.events

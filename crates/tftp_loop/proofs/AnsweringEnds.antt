@@ -1,37 +1,30 @@
 -- What a step of a server's end sends, and to whom.
 -- For Reflecting and Leaving.
-use Rattle.tftp_loop.proofs.Common.{arith, ◌≡◌, ◌≤◌, ◌+◌, ◌&&◌, not, ◌⊎◌, ℕ, Bool, true, false, List, [], Option, Some}
-use Rattle.tftp_loop.proofs.Common.{None, refl, sym, ap, subst, ◌∙◌, inl, inr, if◌then◌else◌, nat_lt, Result, Ok, Err}
-use Rattle.tftp_loop.proofs.Common.{⊤, true≢false, has_error_opcode, Mode, Packet, SourceMeaning, SinkMeaning}
-use Rattle.tftp_loop.proofs.Common.{StoreFault, Files, Source, Sink, datagram_action, EndState, Position, Acts}
-use Rattle.tftp_loop.proofs.Common.{DatagramStep, Reply, Turn, block_length, response_turn, timeout_turn, Action}
+use Rattle.tftp_loop.proofs.Common.{◌≡◌, ◌≤◌, ◌+◌, ◌&&◌, not, ◌⊎◌, ℕ, Bool, true, false, List, Option, Some, None, refl}
+use Rattle.tftp_loop.proofs.Common.{sym, ap, ◌∙◌, inl, inr, if◌then◌else◌, nat_lt, ⊤, true≢false, has_error_opcode}
+use Rattle.tftp_loop.proofs.Common.{Mode, Packet, SourceMeaning, SinkMeaning, Files, Source, datagram_action, EndState}
+use Rattle.tftp_loop.proofs.Common.{Position, Acts, DatagramStep, Reply, Turn, response_turn, timeout_turn, Action}
 use Rattle.tftp_loop.proofs.Common.{Respond, Send, Store, Response, Retransmit, Close, Endpoint, Fresh, Phase, Waiting}
 use Rattle.tftp_loop.proofs.Common.{Sending, Receiving, Dallying, Closed, Terms, An_ack, A_block}
 use Rattle.std.proofs.Common.{eqb-true}
 use Rattle.std.specs.Prelude.{◌==◌, ◌/◌, is_none, length}
 use Rattle.std.specs.Cmp.Lexicographic.{same_text}
-use Rattle.std.proofs.lemmas.List.{length-take}
 use Rattle.std.proofs.lemmas.Bool.{not-false}
 use Rattle.tftp_wire.specs.declared.packet.Packet.TheVariants as packets
-use Rattle.tftp_file.specs.Source.{Fills}
-use Rattle.tftp_file.specs.declared.fault.FileFault.{FileFault}
-use Rattle.tftp_file.specs.declared.fault.FileFault.TheVariants as file_faults
 use Rattle.tftp_ends.specs.Action.{garbled_response, is_wrong_peer, packet_action, same_address}
 use Rattle.tftp_ends.specs.Action.{same_endpoint, timeout_response}
 use Rattle.tftp_ends.specs.End.{is_client, terms_of}
 use Rattle.tftp_ends.specs.Phase.{waited}
 use Rattle.tftp_ends.specs.Receiver.{dally_response, next_action, receiver_action}
 use Rattle.tftp_ends.specs.Sender.{sender_action}
-use Rattle.tftp_ends.specs.Step.{Done, GoesOn, SendsFrom, StoresIn, after}
-use Rattle.tftp_ends.specs.Step.{ack_bytes, commit_reply, committed_turn, data_bytes, filled_turn, holding}
-use Rattle.tftp_ends.specs.Step.{refused_turn, reply_at, result_count_is, sent_turn}
+use Rattle.tftp_ends.specs.Step.{after, data_bytes, holding, reply_at}
 use Rattle.tftp_ends.specs.Text.{is_readable}
 use Rattle.tftp_ends.specs.declared.action.Response.TheVariants.{Ignore, WrongPeer, ResendReply, Wait}
 use Rattle.tftp_ends.specs.declared.action.Response.TheVariants.{Refuse, Accept, Complete as Completes}
 use Rattle.tftp_ends.specs.declared.error_reply.ErrorReply.TheVariants as replies
-use Rattle.tftp_ends.specs.declared.outcome.Outcome.TheVariants as outcomes
 use Rattle.tftp_ends.specs.declared.phase.Dally.TheVariants.{Waited}
 use Rattle.tftp_loop.specs.Leaving.{IsSaid, An_error}
+use Rattle.tftp_loop.proofs.EndSteps.{Acknowledges, Gives, Gives_up, Makes, Responds, acts_make}
 
 -- ---- endpoints that are equal by the test
 both : (a b : Bool) → (a && b) ≡ true → (a ≡ true) × (b ≡ true)
@@ -46,6 +39,11 @@ same_as a b e =
     let h = both (same_address a b) (a.port == b.port) e in
     sym (endpoint_from a b (same_text a.ip b.ip (sym h.0)) (eqb-true a.port b.port h.1))
 
+-- what holds of both cases of a test
+pub either : {A : Type 0} (P : A → Type 0) (b : Bool) {one two : A} → P one → P two → P (if b then one else two)
+either P true h k = h
+either P false h k = k
+
 -- ---- an answer
 -- nothing is sent, or a datagram that may be, to this endpoint
 abbrev pub SendsTo : (List ℕ → Type 0) → Endpoint → Option Reply → Type 0
@@ -55,29 +53,6 @@ SendsTo IsGiven to (Some reply) = (reply.to ≡ to) × IsSaid IsGiven reply.byte
 -- no block may be sent
 abbrev pub NoBlock : List ℕ → Type 0
 NoBlock piece = ⊥
-
--- ---- the bytes of a fill
--- they are no more than were requested
-pub at_most : (before after : Option (List ℕ)) (want : ℕ) (piece : List ℕ) (answer : Result ℕ FileFault)
-    → Fills before after want [] piece answer → length piece ≤ want
-at_most (Some left) after want piece (Ok k) f =
-    let a = ap (λ (t : List ℕ). length t) f.given in
-    let b = length-take k left in
-    let c = f.count in
-    omega (arith, a, b, c)
-at_most None after want piece (Ok k) f =
-    let a = ap (λ (t : List ℕ). length t) f.given in
-    let b = f.count in
-    let c = f.bound in
-    omega (arith, a, b, c)
-at_most (Some left) after want piece (Err file_faults.Read) f =
-    let a = ap (λ (t : List ℕ). length t) f in omega (arith, a)
-at_most None after want piece (Err file_faults.Read) f =
-    let a = ap (λ (t : List ℕ). length t) f in omega (arith, a)
-at_most (Some left) after want piece (Err file_faults.Memory) f =
-    let a = ap (λ (t : List ℕ). length t) f.kept in omega (arith, a)
-at_most None after want piece (Err file_faults.Memory) f =
-    let a = ap (λ (t : List ℕ). length t) f.kept in omega (arith, a)
 
 -- the block sizes with which the end may send are such
 module _ (Fits : ℕ → Type 0) where
@@ -100,66 +75,39 @@ module _ (Fits : ℕ → Type 0) where
   ActsFor peer (Send terms number) = (terms.peer ≡ peer) × Fits terms.size
   ActsFor peer (Store terms number) = terms.peer ≡ peer
 
-  either : (peer : Endpoint) (b : Bool) (one two : Action) → ActsFor peer one → ActsFor peer two
-      → ActsFor peer (if b then one else two)
-  either peer true one two h k = h
-  either peer false one two h k = k
-
-  responds_either : (peer : Endpoint) (b : Bool) (one two : Response) → RespondsTo peer one → RespondsTo peer two
-      → RespondsTo peer (if b then one else two)
-  responds_either peer true one two h k = h
-  responds_either peer false one two h k = k
-
   module _ (peer : Endpoint) where
     sender_for : (client : Bool) (count : ℕ) (terms : Terms) (n : ℕ) (decoded : Option Packet)
         → (terms.peer ≡ peer) × Fits terms.size → ActsFor peer (sender_action client count terms n decoded)
-    sender_for client count terms n None is = tt
-    sender_for client count terms n (Some (packets.Read request)) is = tt
-    sender_for client count terms n (Some (packets.Write request)) is = tt
-    sender_for client count terms n (Some (packets.Data number piece)) is = tt
     sender_for client count terms n (Some (packets.Ack acked)) is =
-        either peer (acked == n) _ _ (either peer (nat_lt n (count / terms.size + 1)) _ _ is tt)
-        (either peer (nat_lt acked n) _ _ tt tt)
-    sender_for client count terms n (Some (packets.Error code text)) is = tt
+        either (ActsFor peer) (acked == n) (either (ActsFor peer) (nat_lt n (count / terms.size + 1)) is tt)
+        (either (ActsFor peer) (nat_lt acked n) tt tt)
     sender_for client count terms n (Some (packets.Oack options)) is =
-        either peer (client && terms.by_oack) _ _ tt tt
+        either (ActsFor peer) (client && terms.by_oack) tt tt
+    sender_for client count terms n decoded is = tt
 
     next_for : (mode : Mode) (held : List ℕ) (terms : Terms) (n : ℕ) (piece : List ℕ) → terms.peer ≡ peer
         → ActsFor peer (next_action mode held terms n piece)
     next_for mode held terms n piece is =
-        either peer (nat_lt terms.size (length piece)) _ _ tt
-        (either peer (n == 65535 && (length piece == terms.size)) _ _ tt
-        (either peer (is_readable mode held piece (nat_lt (length piece) terms.size)) _ _ is tt))
+        either (ActsFor peer) (nat_lt terms.size (length piece)) tt
+        (either (ActsFor peer) (n == 65535 && (length piece == terms.size)) tt
+        (either (ActsFor peer) (is_readable mode held piece (nat_lt (length piece) terms.size)) is tt))
 
     receiver_for : (client : Bool) (mode : Mode) (held : List ℕ) (terms : Terms) (n : ℕ) (decoded : Option Packet)
         → terms.peer ≡ peer → ActsFor peer (receiver_action client mode held terms n decoded)
-    receiver_for client mode held terms n None is = tt
-    receiver_for client mode held terms n (Some (packets.Read request)) is = tt
-    receiver_for client mode held terms n (Some (packets.Write request)) is = tt
     receiver_for client mode held terms n (Some (packets.Data number piece)) is =
-        either peer (number == n) _ _ tt
-        (either peer (nat_lt number n) _ _ tt
-        (either peer (number == n + 1) _ _ (next_for mode held terms number piece is) tt))
-    receiver_for client mode held terms n (Some (packets.Ack acked)) is = tt
-    receiver_for client mode held terms n (Some (packets.Error code text)) is = tt
+        either (ActsFor peer) (number == n) tt (either (ActsFor peer) (nat_lt number n) tt
+        (either (ActsFor peer) (number == n + 1) (next_for mode held terms number piece is) tt))
     receiver_for client mode held terms n (Some (packets.Oack options)) is =
-        either peer (client && terms.by_oack) _ _ (either peer (n == 0) _ _ tt tt) tt
+        either (ActsFor peer) (client && terms.by_oack) (either (ActsFor peer) (n == 0) tt tt) tt
+    receiver_for client mode held terms n decoded is = tt
 
     dally_for : (n : ℕ) (decoded : Option Packet) → RespondsTo peer (dally_response n decoded)
-    dally_for n None = tt
-    dally_for n (Some (packets.Read request)) = tt
-    dally_for n (Some (packets.Write request)) = tt
-    dally_for n (Some (packets.Data number piece)) = responds_either peer (number == n) _ _ tt tt
-    dally_for n (Some (packets.Ack acked)) = tt
-    dally_for n (Some (packets.Error code text)) = tt
-    dally_for n (Some (packets.Oack options)) = tt
+    dally_for n (Some (packets.Data number piece)) = either (RespondsTo peer) (number == n) tt tt
+    dally_for n decoded = tt
 
     garbled_for : (phase : Phase) → RespondsTo peer (garbled_response phase)
     garbled_for (Waiting asked limit) = tt
-    garbled_for (Sending terms n) = tt
-    garbled_for (Receiving terms n) = tt
-    garbled_for (Dallying terms n dally) = tt
-    garbled_for (Closed terms n complete outcome) = tt
+    garbled_for phase = tt
 
     packet_for : (e : EndState) (from : Endpoint) (decoded : Option Packet) (phase : Phase) → IsWith peer phase
         → ActsFor peer (packet_action e from decoded phase)
@@ -226,127 +174,69 @@ module _ (Fits : ℕ → Type 0) where
       pub position : IsAt peer turn.position
 
     waited_with : (peer : Endpoint) (phase : Phase) → IsWith peer phase → IsWith peer (waited phase)
-    waited_with peer (Waiting asked limit) is = is
-    waited_with peer (Sending terms number) is = is
-    waited_with peer (Receiving terms number) is = is
     waited_with peer (Dallying terms number dally) is = is
-    waited_with peer (Closed terms number complete outcome) is = is
+    waited_with peer phase is = is
 
     module _ (from : Endpoint) (e : EndState) (at : IsAt from e.position) where
-      ack_said : (number : ℕ) → IsSaid IsGiven (ack_bytes number)
-      ack_said number = An_ack number refl
+      -- at another position where the same was sent
+      entered : (phase : Phase) (left : ℕ) (held : List ℕ) → IsWith from phase
+          → IsAt from (record e.position { phase = phase; retries_left = left; held_back = held })
+      entered phase left held is = record { to = at.to; with_peer = is; said = at.said }
 
       responds : (response : Response) → RespondsTo from response → Answers from (response_turn response from e)
       responds Ignore for = record { sends = tt; position = at }
       responds WrongPeer for = record { sends = (refl, An_error replies.UnknownTransferId refl); position = at }
       responds ResendReply for = record { sends = (refl, at.said); position = at }
-      responds Retransmit for = record {
-        sends = (at.to, at.said);
-        position = record { to = at.to; with_peer = at.with_peer; said = at.said };
-      }
+      responds Retransmit for = record { sends = (at.to, at.said); position = entered _ _ _ at.with_peer }
       responds Wait for = record {
         sends = tt;
-        position = record {
-          to = at.to;
-          with_peer = waited_with from e.position.phase at.with_peer;
-          said = at.said;
-        };
+        position = entered _ _ _ (waited_with from e.position.phase at.with_peer);
       }
-      responds (Close outcome) for = record {
-        sends = tt;
-        position = record { to = at.to; with_peer = tt; said = at.said };
-      }
-      responds (Refuse terms reply outcome) for = record {
-        sends = (refl, An_error reply refl);
-        position = record { to = at.to; with_peer = tt; said = at.said };
-      }
+      responds (Close outcome) for = record { sends = tt; position = entered _ _ _ tt }
+      responds (Refuse terms reply outcome) for =
+          record { sends = (refl, An_error reply refl); position = entered _ _ _ tt }
       responds (Accept terms) for = record {
-        sends = (refl, ack_said 0);
-        position = record { to = refl; with_peer = for; said = ack_said 0 };
+        sends = (refl, An_ack 0 refl);
+        position = record { to = refl; with_peer = for; said = An_ack 0 refl };
       }
-      responds Completes for = record {
-        sends = tt;
-        position = record { to = at.to; with_peer = tt; said = at.said };
-      }
+      responds Completes for = record { sends = tt; position = entered _ _ _ tt }
 
-      sends_new : (phase : Phase) (bytes : List ℕ) → IsWith from phase → IsSaid IsGiven bytes
-          → Answers from (sent_turn phase from bytes e)
-      sends_new phase bytes is said = record {
-        sends = (refl, said);
-        position = record { to = refl; with_peer = is; said = said };
-      }
-
-      filled_so : (b : Bool) (terms : Terms) (number : ℕ) (piece : List ℕ)
-          → (terms.peer ≡ from) × Fits terms.size → IsGiven piece
-          → Answers from (if b then sent_turn (Sending terms number) from (data_bytes number piece) e
-          else refused_turn terms replies.FileChanged outcomes.SourceFault from e)
-      filled_so true terms number piece is given =
-          sends_new (Sending terms number) (data_bytes number piece) is (A_block number piece refl given)
-      filled_so false terms number piece is given =
-          responds (Refuse (Some terms) replies.FileChanged outcomes.SourceFault) tt
-
-    answers_by : (from : Endpoint) (turn turn' : Turn) → turn ≡ turn' → Answers from turn' → Answers from turn
-    answers_by from turn turn' is h = subst (Answers from) (sym is) h
-
-    committed_so : (from : Endpoint) (terms : Terms) (number : ℕ) (e : EndState) → IsAt from e.position
-        → (answer : Result Done StoreFault) → terms.peer ≡ from
-        → Answers from (committed_turn terms number from e answer)
-    committed_so from terms number e at (Ok done) is =
-        sends_new from e at (Dallying terms number Fresh) (ack_bytes number) is (An_ack number refl)
-    committed_so from terms number e at (Err fault) is =
-        responds from e at (Refuse (Some terms) (commit_reply fault) outcomes.StoreFault) tt
-
-    module _ {S K : Type 0} (sources : SourceMeaning S) (sinks : SinkMeaning K) (from : Endpoint) (bytes : List ℕ)
-        (e : EndState) (turn : Turn) where
+    module _ {S K : Type 0} (sources : SourceMeaning S) where
       -- what the source gives may be sent
       abbrev pub GivesOnly : Files S K → Files S K → Type 0
       GivesOnly files files' =
           (source source' : S) (piece : List ℕ) (size : ℕ) → files ≡ Source source → files' ≡ Source source'
           → sources.gives source piece source' → Fits size → length piece ≤ size → IsGiven piece
 
-      sends_so : (terms : Terms) (number : ℕ) (files files' : Files S K) → IsAt from e.position
-          → (terms.peer ≡ from) × Fits terms.size → GivesOnly files files' → SendsFrom sources sinks terms number from e files turn files' → Answers from turn
-      sends_so terms number (Source source) (Source source') at is gives h =
-          let want = block_length e.role.length terms.size number in
-          let long = at_most (sources.left source) (sources.left source') want h.piece h.answer h.reads.fills in
-          answers_by from turn (filled_turn terms number from h.piece e h.answer) h.answers
-          (filled_so from e at (result_count_is want h.answer) terms number h.piece is
-          (gives source source' h.piece terms.size refl refl h.gives is.1 (omega (arith, long))))
-      sends_so terms number (Source source) (Sink sink) at is gives h = absurd h
-      sends_so terms number (Sink sink) (Source source) at is gives h = absurd h
-      sends_so terms number (Sink sink) (Sink sink') at is gives h = absurd h
+    with_peer_in : (peer : Endpoint) (terms : Terms) (number : ℕ) (phase : Phase) → terms.peer ≡ peer
+        → (phase ≡ Receiving terms number) ⊎ (phase ≡ Dallying terms number Fresh) → IsWith peer phase
+    with_peer_in peer terms number phase is (inl receives) = rw receives is
+    with_peer_in peer terms number phase is (inr dallies) = rw dallies is
 
-      held_at_same : (held : List ℕ) → IsAt from e.position → IsAt from (holding held e).position
-      held_at_same held at = record { to = at.to; with_peer = at.with_peer; said = at.said }
-
-      goes_on_so : (terms : Terms) (number : ℕ) (last : Bool) (held : List ℕ) (sink : K) (answer : Result Done StoreFault)
-          (sink' : K) → IsAt from e.position → terms.peer ≡ from
-          → GoesOn sinks terms number from e last held sink answer turn sink' → Answers from turn
-      goes_on_so terms number last held sink (Err fault) sink' at is h =
-          answers_by from turn (refused_turn terms replies.DiskFull outcomes.StoreFault from e) h.0
-          (responds from e at (Refuse (Some terms) replies.DiskFull outcomes.StoreFault) tt)
-      goes_on_so terms number true held sink (Ok done) sink' at is h =
-          answers_by from turn (committed_turn terms number from (holding held e) h.answer) h.answers
-          (committed_so from terms number (holding held e) (held_at_same held at) h.answer is)
-      goes_on_so terms number false held sink (Ok done) sink' at is h =
-          answers_by from turn (sent_turn (Receiving terms number) from (ack_bytes number) (holding held e)) h.0
-          (sends_new from (holding held e) (held_at_same held at) (Receiving terms number) (ack_bytes number) is
-          (An_ack number refl))
-
-      stores_so : (terms : Terms) (number : ℕ) (piece : List ℕ) (files files' : Files S K) → IsAt from e.position
-          → terms.peer ≡ from → StoresIn sources sinks terms number from piece e files turn files' → Answers from turn
-      stores_so terms number piece (Sink sink) (Sink sink') at is h =
-          goes_on_so terms number (nat_lt (length piece) terms.size) h.after h.mid h.answer sink' at is h.rest
-      stores_so terms number piece (Source source) (Sink sink) at is h = absurd h
-      stores_so terms number piece (Sink sink) (Source source) at is h = absurd h
-      stores_so terms number piece (Source source) (Source source') at is h = absurd h
-
-      acts_so : (action : Action) (files files' : Files S K) → IsAt from e.position → ActsFor from action
-          → GivesOnly files files' → Acts sources sinks action from bytes e files turn files' → Answers from turn
-      acts_so (Respond response) files files' at for gives h =
-          answers_by from turn (response_turn response from e) h.0 (responds from e at response for)
-      acts_so (Send terms number) files files' at for gives h = sends_so terms number files files' at for gives h
-      acts_so (Store terms number) files files' at for gives h = stores_so terms number h.0 files files' at for h.2
+    module _ {S K : Type 0} {sources : SourceMeaning S} {from : Endpoint} {e : EndState} {turn : Turn} {action : Action}
+        {files files' : Files S K} where
+      acts_so : IsAt from e.position → ActsFor from action → GivesOnly sources files files'
+          → Makes sources from e turn action files files' → Answers from turn
+      acts_so at for gives (Responds response acts is) =
+          rw is (responds from e at response (rw acts at for))
+      acts_so at for gives (Gives terms number source source' piece acts was now gave long is) =
+          let own : (terms.peer ≡ from) × Fits terms.size = rw acts at for in
+          let said : IsSaid IsGiven (data_bytes number piece) =
+          A_block number piece refl (gives source source' piece terms.size was now gave own.1 long) in
+          rw is (record { sends = (refl, said); position = record { to = refl; with_peer = own; said = said } })
+      acts_so at for gives (Acknowledges terms number held phase acts which is) =
+          let own : terms.peer ≡ from = rw acts at for in
+          rw is (record {
+            sends = (refl, An_ack number refl);
+            position = record {
+              to = refl;
+              with_peer = with_peer_in from terms number phase own which;
+              said = An_ack number refl;
+            };
+          })
+      acts_so at for gives (Gives_up terms reply outcome held is) =
+          rw is (responds from (holding held e) (entered from e at _ _ _ at.with_peer)
+          (Refuse (Some terms) reply outcome) tt)
 
     -- ---- a datagram
     -- its sender is answered by an ERROR or not at all, and nothing changes; or it is the peer
@@ -354,46 +244,39 @@ module _ (Fits : ℕ → Type 0) where
       To_other : turn.position ≡ e.position → SendsTo NoBlock from turn.reply → AnswersOne from e turn
       To_peer : from ≡ e.position.last_sent_to → Answers from turn → AnswersOne from e turn
 
+    other_so : (from : Endpoint) (e : EndState) (turn : Turn) (response : Response) → turn ≡ response_turn response from e
+        → after response from e ≡ e.position → SendsTo NoBlock from (reply_at response from e) → AnswersOne from e turn
+    other_so from e turn response is same sends =
+        To_other (ap (λ (t : Turn). t.position) is ∙ same) (rw is sends)
+
     module _ {S K : Type 0} (sources : SourceMeaning S) (sinks : SinkMeaning K) (from : Endpoint) (bytes : List ℕ)
         (e : EndState) (turn : Turn) (files files' : Files S K) where
-      other_so : (response : Response) → turn ≡ response_turn response from e
-          → after response from e ≡ e.position → SendsTo NoBlock from (reply_at response from e) → AnswersOne from e turn
-      other_so response is same sends =
-          To_other (ap (λ (t : Turn). t.position) is ∙ same)
-          (subst (λ (t : Turn). SendsTo NoBlock from t.reply) (sym is) sends)
-
       action_so : (action : Action) → IsAt e.position.last_sent_to e.position
-          → GivesOnly sources sinks from bytes e turn files files'
+          → GivesOnly sources files files'
           → Acts sources sinks action from bytes e files turn files' → Handles e.position.last_sent_to from action
           → AnswersOne from e turn
-      action_so action at gives h (Ignored is) =
-          other_so Ignore
-          (subst (λ (a : Action). Acts sources sinks a from bytes e files turn files') is h).0 refl tt
+      action_so action at gives h (Ignored is) = other_so from e turn Ignore (rw is at h).0 refl tt
       action_so action at gives h (Refused is) =
-          other_so WrongPeer
-          (subst (λ (a : Action). Acts sources sinks a from bytes e files turn files') is h).0 refl
-          (refl, An_error replies.UnknownTransferId refl)
+          other_so from e turn WrongPeer (rw is at h).0 refl (refl, An_error replies.UnknownTransferId refl)
       action_so action at gives h (Taken is for) =
           To_peer is
-          (acts_so sources sinks from bytes e turn action files files'
-          (subst (λ (p : Endpoint). IsAt p e.position) (sym is) at)
-          (subst (λ (p : Endpoint). ActsFor p action) (sym is) for) gives h)
+          (acts_so (rw is at) (rw is for) gives (acts_make sources sinks from bytes e turn action files files' h))
 
+    module _ {S K : Type 0} {sources : SourceMeaning S} {sinks : SinkMeaning K} {from : Endpoint} {bytes : List ℕ}
+        {e : EndState} {turn : Turn} {files files' : Files S K} where
       pub datagram_answers : IsAt e.position.last_sent_to e.position
-          → GivesOnly sources sinks from bytes e turn files files'
+          → GivesOnly sources files files'
           → DatagramStep sources sinks from bytes e files turn files' → AnswersOne from e turn
       datagram_answers at gives steps =
-          action_so (datagram_action e from bytes steps.decoded) at gives steps.acts
+          action_so sources sinks from bytes e turn files files' (datagram_action e from bytes steps.decoded) at gives
+          steps.acts
           (handles e.position.last_sent_to from e bytes steps.decoded at.with_peer)
 
     -- ---- a timeout
     timeout_for : (peer : Endpoint) (left : ℕ) (phase : Phase) → RespondsTo peer (timeout_response left phase)
-    timeout_for peer left (Waiting asked limit) = responds_either peer (left == 0) _ _ tt tt
-    timeout_for peer left (Sending terms number) = responds_either peer (left == 0) _ _ tt tt
-    timeout_for peer left (Receiving terms number) = responds_either peer (left == 0) _ _ tt tt
     timeout_for peer left (Dallying terms number Fresh) = tt
     timeout_for peer left (Dallying terms number Waited) = tt
-    timeout_for peer left (Closed terms number complete outcome) = responds_either peer (left == 0) _ _ tt tt
+    timeout_for peer left phase = either (RespondsTo peer) (left == 0) tt tt
 
     pub timeout_answers : (e : EndState) → IsAt e.position.last_sent_to e.position
         → Answers e.position.last_sent_to (timeout_turn e)

@@ -1,6 +1,6 @@
 -- How long a transfer waits after timeouts, and how long it takes to close. For Looking, InTime and
 -- `a_server_closes_what_makes_no_progress`.
-use Rattle.tftp_loop.proofs.Common.{arith, ◌≡◌, ◌≤◌, ◌<◌, ◌+◌, ◌*◌, ℕ, min, max, zero, suc, ap, refl, wait_of, Backoff}
+use Rattle.tftp_loop.proofs.Common.{arith, ◌≡◌, ◌≤◌, ◌<◌, ◌+◌, ◌*◌, ℕ, min, max, zero, suc, ap, wait_of, Backoff}
 use Rattle.tftp_loop.proofs.Common.{LONGEST_WAIT, in_millis, waits_of}
 use Rattle.std.proofs.Common.{◌^◌}
 use Rattle.std.proofs.Math.Nat.{mul-le-mul_left, mul-suc, pow-le-pow_right}

@@ -1,9 +1,9 @@
 -- The time of a server, by the readings of its clock. For `a_server_closes_by_the_clock`.
-use Rattle.tftp_loop.proofs.Common.{arith, ◌≡◌, ◌≤◌, ◌<◌, ◌+◌, ◌-◌, min, max, ℕ, Bool, true, false, refl, ap}
-use Rattle.tftp_loop.proofs.Common.{if◌then◌else◌, SourceMeaning, wait_of, StoreMeaning, last_moment, Watch, Run, Start}
-use Rattle.tftp_loop.proofs.Common.{Then, LoopState, LoopStep, round_end, Waited, Clock_read, in_millis, waits_of}
+use Rattle.tftp_loop.proofs.Common.{arith, ap, ◌≡◌, ◌≤◌, ◌<◌, ◌+◌, ◌-◌, min, max, ℕ, Bool, true, false, refl}
+use Rattle.tftp_loop.proofs.Common.{if◌then◌else◌, SourceMeaning, StoreMeaning, last_moment, Watch, Run, Start, Then}
+use Rattle.tftp_loop.proofs.Common.{LoopState, LoopStep, Timer, LONGEST_WAIT, round_end, Waited, Clock_read}
 use Rattle.tftp_loop.specs.Steps.{IsReadBy}
-use Rattle.tftp_loop.specs.Expiry.{Idles}
+use Rattle.tftp_loop.specs.Expiry.{Idles, closing_time, counted_from}
 use Rattle.tftp_loop.specs.Expiry.Idles.{At_first, After}
 use Rattle.tftp_loop.specs.Seconds.{ClosesByTheClock, ClosesOverAgeByTheClock, PassesWithTheClock, TimesOutByTheClock}
 use Rattle.tftp_loop.specs.Seconds.{cut_along, cut_by, cut_in, cut_of}
@@ -24,72 +24,72 @@ read_passes old watch by =
     omega (arith, is, time, cut)
 
 module _ {S F D : Type 0} (meaning : StoreMeaning S D) (sources : SourceMeaning F) where
-  -- a step that reads no clock
-  still : (s t : LoopState S F D) → t.now ≡ s.now → t.reading ≡ s.reading → Passes s t 0
-  still s t now reading = omega (arith, now, reading)
-
   step_passes : (s t : LoopState S F D) (does : LoopStep meaning sources s t) → Passes s t (cut_by meaning sources does)
   step_passes s t (Waited d) =
-      let now : t.now ≡ d.watch.now = ap (λ (u : LoopState S F D). u.now) d.is in
-      let reading : t.reading ≡ d.watch.reading = ap (λ (u : LoopState S F D). u.reading) d.is in
-      let passes = read_passes s d.watch d.by in
-      omega (arith, now, reading, passes)
+      omega (
+        arith,
+        ap (λ (u : LoopState S F D). u.now) d.is,
+        ap (λ (u : LoopState S F D). u.reading) d.is,
+        read_passes s d.watch d.by,
+      )
   step_passes s t (Clock_read d) =
-      let now : t.now ≡ d.watch.now = ap (λ (u : LoopState S F D). u.now) d.is in
-      let reading : t.reading ≡ d.watch.reading = ap (λ (u : LoopState S F D). u.reading) d.is in
-      let passes = read_passes s d.watch d.by in
-      omega (arith, now, reading, passes)
+      omega (
+        arith,
+        ap (λ (u : LoopState S F D). u.now) d.is,
+        ap (λ (u : LoopState S F D). u.reading) d.is,
+        read_passes s d.watch d.by,
+      )
   step_passes s t does =
-      still s t (ap (λ (u : LoopState S F D). u.now) (state_is does))
-      (ap (λ (u : LoopState S F D). u.reading) (state_is does))
+      omega (
+        arith,
+        ap (λ (u : LoopState S F D). u.now) (state_is does),
+        ap (λ (u : LoopState S F D). u.reading) (state_is does),
+      )
 
   passes : {port : ℕ} {first last : LoopState S F D} (idles : Idles meaning sources port first last)
       → Passes first last (cut_in meaning sources idles)
   passes At_first = omega arith
   passes {last = last} (After {middle} run does idle) =
-      let was = passes run in
-      let step = step_passes middle last does in
-      omega (arith, was, step)
+      omega (arith, passes run, step_passes middle last does)
 
   passes_along : {first last : LoopState S F D} (run : Run (LoopStep meaning sources) first last)
       → Passes first last (cut_along meaning sources run)
   passes_along Start = omega arith
   passes_along {last = last} (Then {middle} run does) =
-      let was = passes_along run in
-      let step = step_passes middle last does in
-      omega (arith, was, step)
+      omega (arith, passes_along run, step_passes middle last does)
+
+counted_as : (provisional : Bool) (reading now : ℕ) → (if provisional then reading + LONGEST_WAIT else reading) + now
+    ≡ (if provisional then now + LONGEST_WAIT else now) + reading
+counted_as true reading now = omega arith
+counted_as false reading now = omega arith
 
 -- what is later by the clock is later by the watch
-later_by_now : (provisional : Bool) (interval more reading now reading' now' cut : ℕ)
-    → ((if provisional then reading + 1000 else reading) + interval + more) + cut < reading'
-    → reading' + now ≤ reading + now' + cut → (if provisional then now + 1000 else now) + interval + more < now'
-later_by_now true interval more reading now reading' now' cut late passed = omega (arith, late, passed)
-later_by_now false interval more reading now reading' now' cut late passed = omega (arith, late, passed)
+later_by_now : {S F D : Type 0} (first last : LoopState S F D) (timer : Timer) (cut : ℕ)
+    → closing_time (counted_from first.reading timer) timer.backoff timer.interval first.server.config.retries + cut
+    < last.reading
+    → Passes first last cut
+    → closing_time (counted_from first.now timer) timer.backoff timer.interval first.server.config.retries < last.now
+later_by_now first last timer cut late passed =
+    omega (arith, late, passed, counted_as timer.provisional first.reading first.now)
 
 module _ {S F D : Type 0} (meaning : StoreMeaning S D) (sources : SourceMeaning F) where
   -- `closes_without_progress`, with times that the clock was read at
   pub closes_by_the_clock : ClosesByTheClock meaning sources
   closes_by_the_clock start first last new timer empty run has idles waits late soon =
       closes_without_progress meaning sources start first last new timer empty run has idles waits
-      (later_by_now timer.provisional (waits_of timer.backoff timer.interval (max 1 first.server.config.retries))
-      (in_millis (wait_of timer.backoff timer.interval (max 1 first.server.config.retries))) first.reading first.now last.reading
-      last.now (cut_in meaning sources idles) late (passes meaning sources idles)) soon
+      (later_by_now first last timer (cut_in meaning sources idles) late (passes meaning sources idles)) soon
 
   -- `times_out_in_silence`, with times that the clock was read at
   pub times_out_by_the_clock : TimesOutByTheClock meaning sources
   times_out_by_the_clock start first last new timer transfer empty run has found idles silent waits late soon =
       times_out_in_silence meaning sources start first last new timer transfer empty run has found idles silent waits
-      (later_by_now timer.provisional (waits_of timer.backoff timer.interval (max 1 first.server.config.retries))
-      (in_millis (wait_of timer.backoff timer.interval (max 1 first.server.config.retries))) first.reading first.now last.reading
-      last.now (cut_in meaning sources idles) late (passes meaning sources idles)) soon
+      (later_by_now first last timer (cut_in meaning sources idles) late (passes meaning sources idles)) soon
 
   -- `closes_over_age`, with times that the clock was read at
   pub closes_over_age_by_the_clock : ClosesOverAgeByTheClock meaning sources
   closes_over_age_by_the_clock start first last new timer transfer empty run has found aged goes waits late soon =
       closes_over_age meaning sources start first last new timer transfer empty run has found aged goes waits
-      (later_by_now timer.provisional (waits_of timer.backoff timer.interval (max 1 first.server.config.retries))
-      (in_millis (wait_of timer.backoff timer.interval (max 1 first.server.config.retries))) first.reading first.now last.reading
-      last.now (cut_along meaning sources goes) late (passes_along meaning sources goes)) soon
+      (later_by_now first last timer (cut_along meaning sources goes) late (passes_along meaning sources goes)) soon
 
   -- the time of the program passes with the clock's, a second at most for each reading
   pub passes_with_the_clock : PassesWithTheClock meaning sources

@@ -4,10 +4,11 @@ pub use Rattle.std.proofs.Common.{inl, Bool, None, inr, ◌+◌, [], length, ◌
 pub use Rattle.std.proofs.Common.{not, zero, ◌&&◌, ◌==◌, take, ◌*◌, cond, drop, max, min}
 pub use Rattle.std.proofs.lemmas.Bool.{cases_eq, ne_eqb, true≢false, eq-eqb}
 pub use Rattle.std.proofs.lemmas.List.{length-map, append_assoc}
+pub use Rattle.std.proofs.lemmas.List.Elements.{All-push}
 pub use Rattle.std.proofs.lemmas.Option.{none-some, same_Some}
 pub use Rattle.std.specs.BTreeMap.{is_at}
 pub use Rattle.std.specs.List.{swap_remove, list_any, range_with_len, AllByRecursion}
-pub use Rattle.std.specs.Map.{lookup, values_of, set_value}
+pub use Rattle.std.specs.Map.{lookup, values_of}
 pub use Rattle.std.specs.Ordering.{nat_cmp}
 pub use Rattle.std.specs.Prelude.{is_some, All, slice_index_or, if◌then◌else◌, slice_set, Err, Ok, Result, ⊤, IfSome}
 pub use Rattle.std.specs.Prelude.{option_map, ◌≢◌, nat_lt}
@@ -48,7 +49,7 @@ pub use Rattle.tftp_ends.specs.declared.phase.Terms.{Terms}
 pub use Rattle.tftp_ends.specs.declared.record.Record.{Record}
 pub use Rattle.tftp_ends.specs.declared.record.Step.{Step}
 pub use Rattle.tftp_server.specs.Draft.{drafting_sink}
-pub use Rattle.tftp_server.specs.Port.{Ask, Ignores, Refuses, Reads, Writes, Refused, Sends, Service, Silent, Takes}
+pub use Rattle.tftp_server.specs.Port.{Ask, Ignores, Refuses, Reads, Writes, Refused, Sends, Service}
 pub use Rattle.tftp_server.specs.Request.{Came, Left, left_by, Nothing, Error_reply, A_transfer, Sent, Goes, CarriesOut}
 pub use Rattle.tftp_server.specs.Request.{Taken}
 pub use Rattle.tftp_server.specs.State.{ServerState, at, TransferState, taken_of, with_new, without, draft_of}

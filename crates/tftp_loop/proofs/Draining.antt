@@ -1,12 +1,11 @@
 -- A server that drains receives nothing at its request port. For `a_server_that_drains_only_finishes`.
-use Rattle.tftp_loop.proofs.Common.{◌≡◌, ◌∙◌, ℕ, false, List, sym, ap, true≢false, SourceMeaning, StoreMeaning}
-use Rattle.tftp_loop.proofs.Common.{ServerState, SocketEvent, LoopConfig, Run, Start, Then, LoopState, LoopStep}
-use Rattle.tftp_loop.proofs.Common.{at_start, is_draining, Request_received, No_request_found, Request_not_received}
-use Rattle.tftp_loop.proofs.Common.{Drain_begun}
+use Rattle.tftp_loop.proofs.Common.{◌≡◌, ◌∙◌, false, sym, ap, true≢false, SourceMeaning, StoreMeaning, Run, Start, Then}
+use Rattle.tftp_loop.proofs.Common.{LoopState, LoopStep, is_draining, Request_received, No_request_found}
+use Rattle.tftp_loop.proofs.Common.{Request_not_received, Drain_begun}
 use Rattle.tftp_loop.specs.declared.drain.Drain.{Drain}
 use Rattle.tftp_loop.specs.declared.drain.Drain.TheVariants.{Awaited, Begun, Never}
-use Rattle.tftp_loop.specs.Draining.{FinishesWork, Finishes_by, IsFinishing}
-use Rattle.tftp_loop.specs.Steps.{BeginsDrain, drain_of}
+use Rattle.tftp_loop.specs.Draining.{DrainsByASignal, FinishesWork, Finishes_by, IsFinishing, OnlyFinishes}
+use Rattle.tftp_loop.specs.Steps.{drain_of}
 use Rattle.tftp_loop.proofs.NewStates.{state_is}
 
 -- a server that drains does not go on
@@ -32,9 +31,7 @@ module _ {S F D : Type 0} (meaning : StoreMeaning S D) (sources : SourceMeaning 
       (Then was.0 (Finishes_by does now.0), now.1)
 
   -- from the beginning of the drain on, each step only finishes work
-  pub only_finishes : (old drains last : LoopState S F D) → BeginsDrain meaning sources old drains
-      → Run (LoopStep meaning sources) drains last
-      → Run (FinishesWork meaning sources) drains last × (last.drain ≡ Begun)
+  pub only_finishes : OnlyFinishes meaning sources
   only_finishes old drains last begins run =
       finishes_along drains last (ap (λ (u : LoopState S F D). u.drain) begins.is) run
 
@@ -44,9 +41,7 @@ module _ {S F D : Type 0} (meaning : StoreMeaning S D) (sources : SourceMeaning 
   step_never s t does never = ap (λ (u : LoopState S F D). u.drain) (state_is does) ∙ never
 
   -- without the option to drain no run begins to
-  pub drains_by_a_signal : (config : LoopConfig) (port reading : ℕ) (server : ServerState S F D) (before : List SocketEvent)
-      (last : LoopState S F D) → config.drains ≡ false
-      → Run (LoopStep meaning sources) (at_start config port server reading before) last → last.drain ≡ Never
+  pub drains_by_a_signal : DrainsByASignal meaning sources
   drains_by_a_signal config port reading server before last none Start = ap drain_of none
   drains_by_a_signal config port reading server before last none (Then {middle} run does) =
       step_never middle last does (drains_by_a_signal config port reading server before middle none run)

@@ -1,13 +1,12 @@
 -- What a server drops at its request port begins as no request, and only with `--requests-only`. For
 -- `a_server_drops_no_request`.
 use Rattle.tftp_loop.proofs.Common.{◌≡◌, ◌∙◌, ◌⊎◌, ℕ, true, false, List, inl, inr, refl, sym, ap, true≢false, Read}
-use Rattle.tftp_loop.proofs.Common.{Write, Request, SourceMeaning, Endpoint, StoreMeaning, ServerState, SocketEvent}
-use Rattle.tftp_loop.proofs.Common.{Run, Start, Then, LoopState, LoopStep, AnswersRequest, LosesRequest, at_start}
-use Rattle.tftp_loop.proofs.Common.{Waited, LoopConfig}
+use Rattle.tftp_loop.proofs.Common.{Write, Request, SourceMeaning, Endpoint, StoreMeaning, Run, Start, Then, LoopState}
+use Rattle.tftp_loop.proofs.Common.{LoopStep, at_start, Waited}
 use Rattle.tftp_wire.specs.Spelling.{Spells}
-use Rattle.tftp_loop.specs.Dropped.{IsDropped}
+use Rattle.tftp_loop.specs.Dropped.{AnswersOnlyRequests, DropsNoRequest, DropsOnlyIfTold, IsDropped}
 use Rattle.tftp_loop.specs.OnlyRequests.{begins_as_request}
-use Rattle.tftp_loop.specs.Steps.{RequestLoss, No_answer, No_request, No_memory_to_open, No_port, Same_port, Too_many}
+use Rattle.tftp_loop.specs.Steps.{RequestLoss, No_request}
 use Rattle.tftp_loop.proofs.NewStates.{state_is}
 
 -- an RRQ and a WRQ begin as requests
@@ -22,16 +21,10 @@ module _ {S F D : Type 0} (meaning : StoreMeaning S D) (sources : SourceMeaning 
       (why : RequestLoss meaning sources old from bytes) → IsDropped meaning sources why
       → (old.requests_only ≡ true) × (begins_as_request bytes ≡ false)
   why_dropped old from bytes (No_request only begins) dropped = (only, begins)
-  why_dropped old from bytes (No_answer none) dropped = absurd dropped
-  why_dropped old from bytes (No_memory_to_open lacks last) dropped = absurd dropped
-  why_dropped old from bytes (No_port opens port last missed) dropped = absurd dropped
-  why_dropped old from bytes (Same_port opens port last taken) dropped = absurd dropped
-  why_dropped old from bytes (Too_many opens most) dropped = absurd dropped
+  why_dropped old from bytes why dropped = absurd dropped
 
   -- what is dropped spells no request
-  pub drops_no_request : (old new : LoopState S F D) (loses : LosesRequest meaning sources old new)
-      (request : Request) → Spells (Read request) loses.bytes ⊎ Spells (Write request) loses.bytes
-      → IsDropped meaning sources loses.why → ⊥
+  pub drops_no_request : DropsNoRequest meaning sources
   drops_no_request old new loses request spells dropped =
       true≢false
       (sym (spelled_begins request loses.bytes spells) ∙ (why_dropped old loses.from loses.bytes loses.why dropped).1)
@@ -46,19 +39,13 @@ module _ {S F D : Type 0} (meaning : StoreMeaning S D) (sources : SourceMeaning 
   stays_only s t (Then {middle} run does) = step_only middle t does ∙ stays_only s middle run
 
   -- without `--requests-only` nothing is dropped as no request
-  pub drops_only_if_told : (config : LoopConfig) (port reading : ℕ) (server : ServerState S F D) (before : List SocketEvent)
-      (old new : LoopState S F D) → config.requests_only ≡ false
-      → Run (LoopStep meaning sources) (at_start config port server reading before) old
-      → (loses : LosesRequest meaning sources old new) → IsDropped meaning sources loses.why → ⊥
+  pub drops_only_if_told : DropsOnlyIfTold meaning sources
   drops_only_if_told config port reading server before old new off run loses dropped =
       true≢false
       (sym (why_dropped old loses.from loses.bytes loses.why dropped).0
       ∙ (stays_only (at_start config port server reading before) old run ∙ off))
 
   -- with it each datagram that is answered begins as a request
-  pub answers_only_requests : (config : LoopConfig) (port reading : ℕ) (server : ServerState S F D)
-      (before : List SocketEvent) (old new : LoopState S F D) → config.requests_only ≡ true
-      → Run (LoopStep meaning sources) (at_start config port server reading before) old
-      → (answers : AnswersRequest meaning sources old new) → begins_as_request answers.bytes ≡ true
+  pub answers_only_requests : AnswersOnlyRequests meaning sources
   answers_only_requests config port reading server before old new on run answers =
       answers.handled (stays_only (at_start config port server reading before) old run ∙ on)

@@ -1,20 +1,18 @@
 -- A transfer that makes no progress is closed in time, and its line is printed. For
 -- `a_server_closes_what_makes_no_progress` and ByTheClock.
 use Rattle.tftp_loop.proofs.Common.{after_request, arith, ◌≡◌, ◌<◌, ◌≤◌, ◌+◌, ◌*◌, ◌⊎◌, max, ℕ, Bool, true, false, List}
-use Rattle.tftp_loop.proofs.Common.{[], ◌∷◌, ◌++◌, length, map, Option, Some, None, IsSome, refl, sym, ap, subst, ◌∙◌}
-use Rattle.tftp_loop.proofs.Common.{inl, inr, slice_index_or, slice_set, if◌then◌else◌, cases_eq, append_assoc}
-use Rattle.tftp_loop.proofs.Common.{length-map, none-some, SourceMeaning, Endpoint, Outcome, Record, EndState}
-use Rattle.tftp_loop.proofs.Common.{is_complete, outcome_of, record_of, StoreMeaning, TransferState, at, draft_of}
-use Rattle.tftp_loop.proofs.Common.{is_closed, taken_of, with_new, Came, Left, A_transfer, left_by, deadline_of}
-use Rattle.tftp_loop.proofs.Common.{last_moment, LONGEST_WAIT, line_text, SocketEvent, Printed, Run, Start, Then, Timer}
-use Rattle.tftp_loop.proofs.Common.{PortState, LoopState, PortStep, LoopStep, Waits, deadline_by, interval_at}
-use Rattle.tftp_loop.proofs.Common.{marked_by, port_state, set_by, started, wait_in, A_datagram, A_lost_datagram}
-use Rattle.tftp_loop.proofs.Common.{Waited, At_port, Request_answered, Transfer_closed, IsNoWait, ClosesInSilence}
-use Rattle.tftp_loop.proofs.Common.{IsIdleAt, ReceivesNoneAt, AreKept}
+use Rattle.tftp_loop.proofs.Common.{[], ◌++◌, length, map, Option, Some, None, IsSome, refl, sym, ap, subst, ◌∙◌, inl}
+use Rattle.tftp_loop.proofs.Common.{inr, slice_index_or, slice_set, if◌then◌else◌, cases_eq, append_assoc, length-map}
+use Rattle.tftp_loop.proofs.Common.{none-some, SourceMeaning, Endpoint, Outcome, Record, EndState, is_complete}
+use Rattle.tftp_loop.proofs.Common.{outcome_of, record_of, StoreMeaning, TransferState, at, draft_of, is_closed}
+use Rattle.tftp_loop.proofs.Common.{taken_of, with_new, Came, A_transfer, left_by, deadline_of, last_moment}
+use Rattle.tftp_loop.proofs.Common.{LONGEST_WAIT, SocketEvent, Run, Start, Then, Timer, PortState, LoopState, PortStep}
+use Rattle.tftp_loop.proofs.Common.{LoopStep, Waits, interval_at, marked_by, port_state, set_by, started, wait_in}
+use Rattle.tftp_loop.proofs.Common.{A_datagram, A_lost_datagram, Waited, At_port, Request_answered, Transfer_closed}
+use Rattle.tftp_loop.proofs.Common.{IsNoWait, ClosesInSilence, IsIdleAt, ReceivesNoneAt, AreKept}
 use Rattle.std.specs.List.{Contains}
-use Rattle.tftp_lines.specs.declared.printed.Printed.TheVariants.{Closed}
-use Rattle.tftp_loop.specs.Expiry.{After, At_first, Idles, IsIdle, NoneReceived, PrintsClose, ReceivesNone}
-use Rattle.tftp_loop.specs.Expiry.{closing_time, counted_from}
+use Rattle.tftp_loop.specs.Expiry.{After, At_first, ClosesOverAge, ClosesWithoutProgress, Idles, IsIdle, NoneReceived}
+use Rattle.tftp_loop.specs.Expiry.{PrintsClose, ReceivesNone, TimesOutInSilence, closing_time, counted_from}
 use Rattle.tftp_loop.proofs.Adding.{Adds, adds_more, request_adds, step_adds, step_forward}
 use Rattle.tftp_loop.proofs.Bounded.{some_at, sound_along}
 use Rattle.tftp_loop.proofs.EndSteps.{open_left, timeouts_left}
@@ -28,7 +26,7 @@ use Rattle.tftp_loop.proofs.Sleeping.{step_kept}
 use Rattle.tftp_loop.proofs.Tables.{any_default, appended_at, appended_long, inserted_apart, removed_apart, not_taken}
 use Rattle.tftp_loop.proofs.Tables.{removed_index, set_other, set_own, taken_by}
 use Rattle.tftp_loop.proofs.Waits.{deadline_later, waited_at}
-use Rattle.tftp_loop.proofs.NewStates.{state_is}
+use Rattle.tftp_loop.proofs.NewStates.{answer_is, state_is}
 
 module _ {S F D : Type 0} (meaning : StoreMeaning S D) (sources : SourceMeaning F) (first : LoopState S F D)
     (timer : Timer) (e0 : EndState) where
@@ -107,6 +105,18 @@ module _ {S F D : Type 0} (meaning : StoreMeaning S D) (sources : SourceMeaning 
       (λ d. ap (λ (ts : List Timer). slice_index_or ts lasts.index d) timers ∙ lasts.is d)
       (ap (λ (h : List (ℕ × TransferState F D)). at timer.port h) held ∙ lasts.found)
 
+  module _ {Quiet : Type 0} {since index : ℕ} {s : LoopState S F D} (lasts : Lasts Quiet since s) (own : Timer)
+      (within : index < length s.timers) (is : own ≡ slice_index_or s.timers index own) where
+    -- its own timer is at its index
+    own_timer : lasts.index ≡ index → own ≡ lasts.here
+    own_timer here = is ∙ (ap (λ (j : ℕ). slice_index_or s.timers j own) (sym here) ∙ lasts.is own)
+
+    -- and no other has its port
+    own_index : AreKept s.server.held s.timers → own.port ≡ timer.port → lasts.index ≡ index
+    own_index kept e =
+        kept.apart lasts.index index own own lasts.within within (ap (λ (t : Timer). t.port) (lasts.is own)
+        ∙ (lasts.same.port ∙ (sym e ∙ ap (λ (t : Timer). t.port) is)))
+
   -- a step at a port
   step_at : (Quiet More : Type 0) (since : ℕ) (s : LoopState S F D) (index : ℕ) (own : Timer) (next : PortState S F D)
       → index < length s.timers → own ≡ slice_index_or s.timers index own
@@ -119,54 +129,39 @@ module _ {S F D : Type 0} (meaning : StoreMeaning S D) (sources : SourceMeaning 
   step_at Quiet More since s index own next within is does kept fewer idle silent soon adds lasts =
       let stays = stays_at meaning sources s.now (port_state s own) next does in
       let long = set_long s.timers index next.timer in
-      let inside = lasts.within in
       elim (cases_eq lasts.index index) [
         | inl here ↦
-            let own_is : own ≡ lasts.here = is ∙ (ap (λ (j : ℕ). slice_index_or s.timers j own) (sym here)
-            ∙ lasts.is own) in
-            let port_is : own.port ≡ timer.port = ap (λ (t : Timer). t.port) own_is ∙ lasts.same.port in
-            let same = same_timer meaning sources s.now (port_state s own) next does in
+            let own_is = own_timer lasts own within is here in
+            let was : SameTimer timer own = rw own_is lasts.same in
+            let port_is = was.port in
+            let same = same_timer does in
             let changed = at_transfer meaning sources s.now (port_state s own) next does lasts.transfer
             (ap (λ (p : ℕ). at p s.server.held) port_is ∙ lasts.found) in
-            let interval : own.interval ≡ timer.interval =
-            ap (λ (t : Timer). t.interval) own_is ∙ lasts.same.interval in
-            let backoff : own.backoff ≡ timer.backoff = ap (λ (t : Timer). t.backoff) own_is ∙ lasts.same.backoff in
-            let counts : CountsDown since own (timeouts_left lasts.transfer.end) =
-            subst (λ (t : Timer). CountsDown since t (timeouts_left lasts.transfer.end))
-            (sym own_is) lasts.counts in
-            let Idle = IsIdleAt meaning sources does in
-            let Silent = ReceivesNoneAt meaning sources does in
+            let counts : CountsDown since own (timeouts_left lasts.transfer.end) = rw own_is lasts.counts in
             record {
               index = index;
               here = next.timer;
               within = omega (arith, long, within);
               is = λ d. set_own s.timers index next.timer d within;
               same = record {
-                port = same.port ∙ port_is;
-                peer = same.peer ∙ (ap (λ (t : Timer). t.peer) own_is ∙ lasts.same.peer);
-                interval = same.interval ∙ interval;
-                backoff = same.backoff ∙ backoff;
-                age = same.age ∙ (ap (λ (t : Timer). t.age_limit) own_is ∙ lasts.same.age);
+                port = same.port ∙ was.port;
+                peer = same.peer ∙ was.peer;
+                interval = same.interval ∙ was.interval;
+                backoff = same.backoff ∙ was.backoff;
+                age = same.age ∙ was.age;
               };
               transfer = changed.next;
               found = ap (λ (p : ℕ). at p next.server.held) (sym port_is) ∙ changed.found;
-              counts = changes_in_time start timer.backoff timer.interval most Idle Silent s.now since own next.timer
-                  lasts.transfer.end changed.next.end changed.changes (idle port_is) interval backoff soon counts;
-              complete = λ quiet.
-                  changes_complete start timer.backoff timer.interval most Idle Silent s.now since own next.timer
-                  lasts.transfer.end changed.next.end changed.changes (silent quiet port_is)
-                  ∙ lasts.complete (fewer quiet);
-              closes = λ quiet.
-                  changes_closes start timer.backoff timer.interval most Idle Silent s.now since own next.timer lasts.transfer.end
-                  changed.next.end changed.changes (silent quiet port_is) e0 (lasts.complete (fewer quiet))
+              counts = changes_in_time start since timer.backoff timer.interval most changed.changes (idle port_is)
+                  was.interval was.backoff soon counts;
+              complete = λ quiet. changes_complete changed.changes (silent quiet port_is) ∙ lasts.complete (fewer quiet);
+              closes = λ quiet. changes_closes changed.changes (silent quiet port_is) e0 (lasts.complete (fewer quiet))
                   (lasts.closes (fewer quiet));
               adds = adds_more first.events s.events next.events lasts.adds adds;
             }
         | inr other ↦
-            let apart : timer.port ≡ own.port → ⊥ =
-            λ e. other (kept.apart lasts.index index own own lasts.within within
-            (ap (λ (t : Timer). t.port) (lasts.is own) ∙ (lasts.same.port ∙ (e ∙ ap (λ (t : Timer). t.port) is)))) in
-            still_lasts Quiet More since s _ lasts.index fewer adds lasts (omega (arith, long, inside))
+            let apart : timer.port ≡ own.port → ⊥ = λ e. other (own_index lasts own within is kept (sym e)) in
+            still_lasts Quiet More since s _ lasts.index fewer adds lasts (omega (arith, long, lasts.within))
             (λ d. set_other s.timers index next.timer lasts.index d other ∙ lasts.is d)
             (stays.held.others timer.port apart ∙ lasts.found)
       ]
@@ -179,12 +174,11 @@ module _ {S F D : Type 0} (meaning : StoreMeaning S D) (sources : SourceMeaning 
       let adds = request_adds s from (left_by (A_transfer transfer store) s.server from tid) in
       let opened = started s.now s.longest s.backoff tid from (interval_at (at tid (with_new tid transfer s.server.held))) in
       let long = appended_long s.timers opened in
-      let inside = lasts.within in
       let apart : timer.port ≡ tid → ⊥ = λ e. none-some lasts.transfer
       (sym free ∙ (ap (λ (p : ℕ). at p s.server.held) (sym e) ∙ lasts.found)) in
-      still_lasts Quiet More since s _ lasts.index fewer adds lasts (omega (arith, long, inside))
+      still_lasts Quiet More since s _ lasts.index fewer adds lasts (omega (arith, long, lasts.within))
       (λ d. appended_at s.timers opened lasts.index d lasts.within ∙ lasts.is d)
-      (inserted_apart tid timer.port transfer s.server.held apart ∙ lasts.found)
+      (inserted_apart tid timer.port apart transfer s.server.held ∙ lasts.found)
   opens_lasts Quiet More since from tid s came free fewer lasts =
       same_lasts Quiet More since s _ fewer (request_adds s from (left_by came s.server from tid)) refl refl lasts
 
@@ -210,18 +204,14 @@ module _ {S F D : Type 0} (meaning : StoreMeaning S D) (sources : SourceMeaning 
       (subst (λ (u : LoopState S F D). u.now ≤ since + LONGEST_WAIT) d.is soon)
       (subst (λ (u : LoopState S F D). Adds s.events u.events) d.is adds) lasts))
   step_lives Quiet More since s t (Request_answered d) is idle fewer silent soon kept lasts =
-      inr (subst (Lasts More since) (sym d.is)
-      (subst (λ (left : Left S F D). Lasts More since (after_request s d.from left)) (sym d.steps.left)
-      (opens_lasts Quiet More since d.from d.tid s d.steps.came d.free fewer lasts)))
+      inr (subst (Lasts More since) (sym (answer_is d))
+      (opens_lasts Quiet More since d.from d.tid s d.steps.came d.free fewer lasts))
   step_lives Quiet More since s t (Transfer_closed d) is idle fewer silent soon kept lasts =
       elim (cases_eq lasts.index d.index) [
         | inl here ↦
-            let own_is : d.timer ≡ lasts.here = d.is_timer
-            ∙ (ap (λ (j : ℕ). slice_index_or s.timers j d.timer) (sym here) ∙ lasts.is d.timer) in
-            let port_is : d.timer.port ≡ timer.port = ap (λ (u : Timer). u.port) own_is ∙ lasts.same.port in
-            let peer_is : d.timer.peer.port ≡ timer.peer.port =
-            ap (λ (u : Timer). u.peer.port) own_is ∙ ap (λ (p : Endpoint). p.port) lasts.same.peer in
-            let line = λ (port peer : ℕ). Printed (line_text (Closed port peer d.outcome)) in
+            let was : SameTimer timer d.timer = rw (own_timer lasts d.timer d.within d.is_timer here) lasts.same in
+            let port_is = was.port in
+            let peer_is = ap (λ (p : Endpoint). p.port) was.peer in
             let held : taken_of (Some lasts.transfer) ≡ Some d.taken =
             ap (λ (o : Option (TransferState F D)). taken_of o) (sym lasts.found)
             ∙ (ap (λ (p : ℕ). taken_of (at p s.server.held)) (sym port_is) ∙ d.is_taken) in
@@ -235,24 +225,19 @@ module _ {S F D : Type 0} (meaning : StoreMeaning S D) (sources : SourceMeaning 
               closed = (
                 [],
                 lasts.adds.more,
-                ap (λ (u : LoopState S F D). u.events) d.is
-                    ∙ (ap (λ (p : ℕ). line p d.timer.peer.port ∷ s.events) port_is
-                    ∙ (ap (λ (p : ℕ). line timer.port p ∷ s.events) peer_is
-                    ∙ ap (λ (es : List SocketEvent). line timer.port timer.peer.port ∷ es) lasts.adds.is)),
+                ap (λ (u : LoopState S F D). u.events) d.is ∙ rw (port_is, peer_is, lasts.adds.is) refl,
               );
               why = λ quiet. lasts.closes (fewer quiet) d.outcome outcome_is;
             })
         | inr other ↦
             let apart : timer.port ≡ d.timer.port → ⊥ =
-            λ e. other (kept.apart lasts.index d.index d.timer d.timer lasts.within d.within
-            (ap (λ (u : Timer). u.port) (lasts.is d.timer)
-            ∙ (lasts.same.port ∙ (e ∙ ap (λ (u : Timer). u.port) d.is_timer)))) in
+            λ e. other (own_index lasts d.timer d.within d.is_timer kept (sym e)) in
             let index = removed_index s.timers d.index d.timer lasts.index d.within lasts.within other in
             let adds = subst (λ (u : LoopState S F D). Adds s.events u.events) d.is
             (step_adds meaning sources s t (Transfer_closed d)) in
             inr (subst (Lasts More since) (sym d.is)
             (still_lasts Quiet More since s _ index.0 fewer adds lasts index.1 (λ e. index.2 e ∙ lasts.is e)
-            (removed_apart d.timer.port timer.port s.server.held apart ∙ lasts.found)))
+            (removed_apart d.timer.port timer.port apart s.server.held ∙ lasts.found)))
       ]
   step_lives Quiet More since s t does is idle fewer silent soon kept lasts =
       passes Quiet More since s t _ does fewer (state_is does) refl refl lasts
@@ -275,22 +260,17 @@ module _ {S F D : Type 0} (meaning : StoreMeaning S D) (sources : SourceMeaning 
   rests_lives Quiet More since s t waits fewer soon in_round lasts =
       let more = length-map (map (set_by waits.watch.now) s.timers) (marked_by waits.ports) in
       let as_many = length-map s.timers (set_by waits.watch.now) in
-      let inside = lasts.within in
       let here = lasts.here in
       let early = rests_early Quiet since s t waits soon lasts in
       let later = deadline_later waits.watch.now here.provisional here in
-      let within_limit = waits.by.soon in
-      let most_soon = in_round.soon in
-      let most_limit = in_round.limit in
       let set = set_early since waits.watch.now here.provisional here
-      (omega (arith, within_limit, most_soon, most_limit)) in
-      let deadline = deadline_by waits.watch.now here.provisional here in
+      (omega (arith, waits.by.soon, in_round.soon, in_round.limit)) in
       let adds = subst (λ (u : LoopState S F D). Adds s.events u.events) waits.is
       (step_adds meaning sources s t (Waited waits)) in
       subst (Lasts More s.now) (sym waits.is) (record {
         index = lasts.index;
         here = marked_by waits.ports (set_by waits.watch.now lasts.here);
-        within = omega (arith, more, as_many, inside);
+        within = omega (arith, more, as_many, lasts.within);
         is = λ d. waited_at waits.watch.now waits.ports s.timers lasts.index d lasts.within
             ∙ ap (λ (t : Timer). marked_by waits.ports (set_by waits.watch.now t)) (lasts.is d);
         same = record {
@@ -302,11 +282,7 @@ module _ {S F D : Type 0} (meaning : StoreMeaning S D) (sources : SourceMeaning 
         };
         transfer = lasts.transfer;
         found = lasts.found;
-        counts = λ some. rested start timer.backoff timer.interval most since deadline s.now here.timeouts
-            (timeouts_left lasts.transfer.end) (omega (arith, early, later))
-            (no_later start timer.backoff timer.interval most since (last_of since here) deadline here.timeouts
-            here.timeouts (timeouts_left lasts.transfer.end) (timeouts_left lasts.transfer.end) set (omega arith)
-            (omega arith) (lasts.counts some));
+        counts = λ some. rested (omega (arith, early, later)) (no_later set (omega arith) (omega arith) (lasts.counts some));
         complete = λ quiet. lasts.complete (fewer quiet);
         closes = λ quiet. lasts.closes (fewer quiet);
         adds = adds_more first.events s.events _ lasts.adds adds;
@@ -319,56 +295,53 @@ module _ {S F D : Type 0} (meaning : StoreMeaning S D) (sources : SourceMeaning 
     pub kept : AreKept s.server.held s.timers
     pub lives : Lives Quiet since s
 
-  module _ (Quiet More : Type 0) (s t : LoopState S F D) (does : LoopStep meaning sources s t)
-      (idle : IsIdle meaning sources timer.port does) (fewer : More → Quiet)
-      (silent : More → ReceivesNone meaning sources timer.port does) (was : LivesOn Quiet s) where
-    work_lives : IsNoWait meaning sources does → LivesOn More t
-    work_lives is =
-        let round = step_round meaning sources was.since s t does is was.in_round in
-        record {
-          since = was.since;
-          in_round = round;
-          kept = step_kept meaning sources s t does was.kept;
-          lives = elim was.lives [
-            | inl gone ↦ inl (gone_on Quiet More s t fewer (step_adds meaning sources s t does) gone)
-            | inr lasts ↦ step_lives Quiet More was.since s t does is idle fewer silent round.soon was.kept lasts
-          ];
-        }
+  module _ (Quiet More : Type 0) (s t : LoopState S F D) (does : LoopStep meaning sources s t) (fewer : More → Quiet)
+      (was : LivesOn Quiet s) (idle : Lasts Quiet was.since s → IsIdle meaning sources timer.port does)
+      (silent : Lasts Quiet was.since s → More → ReceivesNone meaning sources timer.port does)
+      (soon : s.now ≤ last_moment) where
+    round_on : (since : ℕ) × InRound meaning sources since t × (Lasts Quiet was.since s → Lives More since t)
+    round_on = elim (wait_or_work meaning sources s t does) [
+      | inl waits ↦ (
+        s.now,
+        next_round meaning sources was.since s t waits was.in_round,
+        λ lasts. inr (rests_lives Quiet More was.since s t waits fewer soon was.in_round lasts),
+      )
+      | inr is ↦
+          let round = step_round meaning sources was.since s t does is was.in_round in (
+            was.since,
+            round,
+            λ lasts. step_lives Quiet More was.since s t does is (idle lasts) fewer (silent lasts) round.soon was.kept lasts,
+          )
+    ]
 
-    wait_lives : Waits meaning sources s t → s.now ≤ last_moment → LivesOn More t
-    wait_lives waits soon = record {
-      since = s.now;
-      in_round = next_round meaning sources was.since s t waits was.in_round;
+    one_lives : LivesOn More t
+    one_lives = record {
+      since = round_on.0;
+      in_round = round_on.1;
       kept = step_kept meaning sources s t does was.kept;
       lives = elim was.lives [
         | inl gone ↦ inl (gone_on Quiet More s t fewer (step_adds meaning sources s t does) gone)
-        | inr lasts ↦ inr (rests_lives Quiet More was.since s t waits fewer soon was.in_round lasts)
+        | inr lasts ↦ round_on.2 lasts
       ];
     }
-
-    one_lives : s.now ≤ last_moment → LivesOn More t
-    one_lives soon = elim (wait_or_work meaning sources s t does) [
-      | inl waits ↦ wait_lives waits soon
-      | inr is ↦ work_lives is
-    ]
 
   lives_along : {s : LoopState S F D} (idles : Idles meaning sources timer.port first s)
       → s.now ≤ last_moment → LivesOn (Unit {0}) first
       → LivesOn (NoneReceived meaning sources idles) s
   lives_along At_first soon start = start
-  lives_along (After {middle} {last} run does idle) soon start =
-      let forward = step_forward meaning sources middle last does in
-      let before : middle.now ≤ last_moment = omega (arith, forward, soon) in
+  lives_along {s = last} (After {middle} run does idle) soon start =
+      let before : middle.now ≤ last_moment = omega (arith, step_forward meaning sources middle last does, soon) in
       let Quiet = NoneReceived meaning sources run in
       let More = Quiet × ReceivesNone meaning sources timer.port does in
-      one_lives Quiet More middle last does idle (λ m. m.0) (λ m. m.1) (lives_along run before start) before
+      one_lives Quiet More middle last does (λ m. m.0) (lives_along run before start) (λ lasts. idle) (λ lasts m. m.1)
+      before
 
   -- ---- over age
   -- a step at a port whose transfer is over age handles nothing
   late_at : (now : ℕ) (old new : PortState S F D) (does : PortStep meaning sources now old new)
       → old.timer.age_limit < now → IsIdleAt meaning sources does × ReceivesNoneAt meaning sources does
-  late_at now old new (A_datagram d) late = let in_time = d.in_time in absurd (omega (arith, in_time, late))
-  late_at now old new (A_lost_datagram d) late = let in_time = d.in_time in absurd (omega (arith, in_time, late))
+  late_at now old new (A_datagram d) late = absurd (omega (arith, d.in_time, late))
+  late_at now old new (A_lost_datagram d) late = absurd (omega (arith, d.in_time, late))
   late_at now old new does late = (tt, tt)
 
   late_idle : (Quiet : Type 0) (since : ℕ) (s t : LoopState S F D) (does : LoopStep meaning sources s t)
@@ -376,12 +349,7 @@ module _ {S F D : Type 0} (meaning : StoreMeaning S D) (sources : SourceMeaning 
       → IsIdle meaning sources timer.port does × ReceivesNone meaning sources timer.port does
   late_idle Quiet since s t (At_port d) kept late lasts =
       let own_is : d.timer.port ≡ timer.port → d.timer ≡ lasts.here =
-      λ e.
-      let here : lasts.index ≡ d.index =
-      kept.apart lasts.index d.index d.timer d.timer lasts.within d.within
-      (ap (λ (u : Timer). u.port) (lasts.is d.timer)
-      ∙ (lasts.same.port ∙ (sym e ∙ ap (λ (u : Timer). u.port) d.is_timer))) in
-      d.is_timer ∙ (ap (λ (j : ℕ). slice_index_or s.timers j d.timer) (sym here) ∙ lasts.is d.timer) in
+      λ e. own_timer lasts d.timer d.within d.is_timer (own_index lasts d.timer d.within d.is_timer kept e) in
       let both : d.timer.port ≡ timer.port
       → IsIdleAt meaning sources d.does × ReceivesNoneAt meaning sources d.does =
       λ e.
@@ -389,27 +357,6 @@ module _ {S F D : Type 0} (meaning : StoreMeaning S D) (sources : SourceMeaning 
       late_at s.now (port_state s d.timer) d.next d.does (omega (arith, age, late)) in
       (λ e. (both e).0, λ e. (both e).1)
   late_idle Quiet since s t does kept late lasts = (tt, tt)
-
-  -- what was printed stays so
-  gone_lives : (s t : LoopState S F D) → LoopStep meaning sources s t → LivesOn (Unit {0}) s → Gone (Unit {0}) s
-      → LivesOn (Unit {0}) t
-  gone_lives s t does was gone =
-      let kept = step_kept meaning sources s t does was.kept in
-      let lives = gone_on (Unit {0}) (Unit {0}) s t (λ q. q) (step_adds meaning sources s t does) gone in
-      elim (wait_or_work meaning sources s t does) [
-        | inl waits ↦ record {
-          since = s.now;
-          in_round = next_round meaning sources was.since s t waits was.in_round;
-          kept = kept;
-          lives = inl lives;
-        }
-        | inr is ↦ record {
-          since = was.since;
-          in_round = step_round meaning sources was.since s t does is was.in_round;
-          kept = kept;
-          lives = inl lives;
-        }
-      ]
 
   -- in any run
   record LivesLate (s : LoopState S F D) : Type 0 where
@@ -419,19 +366,15 @@ module _ {S F D : Type 0} (meaning : StoreMeaning S D) (sources : SourceMeaning 
   late_along : {s : LoopState S F D} → Run (LoopStep meaning sources) first s → timer.age_limit < first.now
       → s.now ≤ last_moment → LivesOn (Unit {0}) first → LivesLate s
   late_along Start late soon start = record { late = late; on = start }
-  late_along (Then {middle} {last} run does) late soon start =
+  late_along {s = last} (Then {middle} run does) late soon start =
       let forward = step_forward meaning sources middle last does in
       let before : middle.now ≤ last_moment = omega (arith, forward, soon) in
       let was = late_along run late before start in
-      let over = was.late in
+      let both = late_idle (Unit {0}) was.on.since middle last does was.on.kept was.late in
       record {
-        late = omega (arith, over, forward);
-        on = elim was.on.lives [
-          | inl gone ↦ gone_lives middle last does was.on gone
-          | inr lasts ↦
-              let both = late_idle (Unit {0}) was.on.since middle last does was.on.kept was.late lasts in
-              one_lives (Unit {0}) (Unit {0}) middle last does both.0 (λ q. q) (λ q. both.1) was.on before
-        ];
+        late = omega (arith, was.late, forward);
+        on = one_lives (Unit {0}) (Unit {0}) middle last does (λ q. q) was.on (λ lasts. (both lasts).0)
+            (λ lasts q. (both lasts).1) before;
       }
 
   too_late : (Quiet : Type 0) (since : ℕ) (s t : LoopState S F D) → Waits meaning sources s t → s.now ≤ last_moment
@@ -448,9 +391,12 @@ module _ {S F D : Type 0} (meaning : StoreMeaning S D) (sources : SourceMeaning 
       (not_taken (is_closed lasts.transfer) (record_of lasts.transfer.end, draft_of lasts.transfer.files)
       not_closed) in
       let later = latest_later since lasts.here.provisional (wait_in lasts.here) lasts.here.deadline in
-      let last = at_last start timer.backoff timer.interval most since (last_of since lasts.here) s.now
-      lasts.here.timeouts (timeouts_left lasts.transfer.end) some (omega (arith, early, later)) (lasts.counts some) in
-      omega (arith, last, late)
+      omega (
+        arith,
+        at_last some (let soon : s.now ≤ last_of since lasts.here = omega (arith, early, later) in soon)
+            (lasts.counts some),
+        late,
+      )
 
 -- ---- the laws
 -- at first each deadline is a wait away at most, from when on it counts
@@ -492,9 +438,7 @@ module _ {S F D : Type 0} (meaning : StoreMeaning S D) (sources : SourceMeaning 
           same = record { port = refl; peer = refl; interval = refl; backoff = refl; age = refl };
           transfer = transfer;
           found = found;
-          counts = λ some. first_time (counted_from first.now timer) timer.backoff timer.interval
-              (max 1 first.server.config.retries) first.now (last_of first.now timer) timer.timeouts
-              (timeouts_left transfer.end) (counted_later first.now timer.provisional)
+          counts = λ some. first_time (counted_later first.now timer.provisional)
               (near_first first.now timer.provisional timer refl near) few;
           complete = λ quiet. refl;
           closes = λ quiet o closed. inr (inr closed);
@@ -503,16 +447,7 @@ module _ {S F D : Type 0} (meaning : StoreMeaning S D) (sources : SourceMeaning 
       }
 
   -- a transfer from whose peer nothing comes closes by its timeouts, and in time
-  pub times_out_in_silence : (start first last new : LoopState S F D) (timer : Timer) (transfer : TransferState F D)
-      → start.timers ≡ [] → Run (LoopStep meaning sources) start first
-      → Contains first.timers timer
-      → at timer.port first.server.held ≡ Some transfer
-      → (idles : Idles meaning sources timer.port first last) → NoneReceived meaning sources idles
-      → Waits meaning sources last new
-      → closing_time (counted_from first.now timer) timer.backoff timer.interval first.server.config.retries < last.now
-      → last.now ≤ last_moment
-      → (outcome : Outcome) × PrintsClose timer.port timer.peer.port outcome first.events last.events
-      × ClosesInSilence transfer.end.position.phase outcome
+  pub times_out_in_silence : TimesOutInSilence meaning sources
   times_out_in_silence start first last new timer transfer empty run has found idles silent waits late soon =
       let along = lives_along meaning sources first timer transfer.end idles soon
       (begins start first timer transfer empty run has found) in
@@ -523,13 +458,7 @@ module _ {S F D : Type 0} (meaning : StoreMeaning S D) (sources : SourceMeaning 
       ]
 
   -- one that makes no progress has closed by the time that its retries allow
-  pub closes_without_progress : (start first last new : LoopState S F D) (timer : Timer)
-      → start.timers ≡ [] → Run (LoopStep meaning sources) start first
-      → Contains first.timers timer
-      → Idles meaning sources timer.port first last → Waits meaning sources last new
-      → closing_time (counted_from first.now timer) timer.backoff timer.interval first.server.config.retries < last.now
-      → last.now ≤ last_moment
-      → (outcome : Outcome) × PrintsClose timer.port timer.peer.port outcome first.events last.events
+  pub closes_without_progress : ClosesWithoutProgress meaning sources
   closes_without_progress start first last new timer empty run has idles waits late soon =
       let sound = sound_along meaning sources start first empty run in
       let there : IsSome (at timer.port first.server.held) =
@@ -545,15 +474,7 @@ module _ {S F D : Type 0} (meaning : StoreMeaning S D) (sources : SourceMeaning 
       ]
 
   -- one older than its age limit closes though datagrams come
-  pub closes_over_age : (start first last new : LoopState S F D) (timer : Timer) (transfer : TransferState F D)
-      → start.timers ≡ [] → Run (LoopStep meaning sources) start first
-      → Contains first.timers timer → at timer.port first.server.held ≡ Some transfer
-      → timer.age_limit < first.now
-      → Run (LoopStep meaning sources) first last → Waits meaning sources last new
-      → closing_time (counted_from first.now timer) timer.backoff timer.interval first.server.config.retries < last.now
-      → last.now ≤ last_moment
-      → (outcome : Outcome) × PrintsClose timer.port timer.peer.port outcome first.events last.events
-      × ClosesInSilence transfer.end.position.phase outcome
+  pub closes_over_age : ClosesOverAge meaning sources
   closes_over_age start first last new timer transfer empty run has found late goes waits over soon =
       let along = late_along meaning sources first timer transfer.end goes late soon
       (begins start first timer transfer empty run has found) in

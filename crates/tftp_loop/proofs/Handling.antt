@@ -1,21 +1,20 @@
 -- What becomes of a datagram of the request port before a server sleeps. For `a_server_handles_before_it_sleeps`.
-use Rattle.tftp_loop.proofs.Common.{arith, ◌≡◌, ◌≤◌, ◌==◌, ◌||◌, ◌&&◌, not, ◌⊎◌, ℕ, Bool, true, false, List, ◌∷◌, cond}
-use Rattle.tftp_loop.proofs.Common.{Option, Some, None, map, refl, sym, ap, subst, ◌∙◌, inl, inr, is_some, All, ◌≢◌}
-use Rattle.tftp_loop.proofs.Common.{list_any, ne_eqb, none-some, same_Some, SourceMeaning, Endpoint, Reply}
-use Rattle.tftp_loop.proofs.Common.{StoreMeaning, SocketEvent, answered, replied, Received, Elapsed, is_among}
-use Rattle.tftp_loop.proofs.Common.{was_tried, ServerState, LoopConfig, Run, Start, Then, Timer, PortState, LoopState}
-use Rattle.tftp_loop.proofs.Common.{PortStep, LoopStep, Waits, port_state, at_start, set_by, until_look, A_datagram}
-use Rattle.tftp_loop.proofs.Common.{A_timeout, A_missed_timeout, Work, Waited, At_port, Request_received}
-use Rattle.tftp_loop.proofs.Common.{No_request_found, Request_not_received, Request_noted, Request_answered}
-use Rattle.tftp_loop.proofs.Common.{Request_lost, is_draining, reads_requests, IsNoWait}
-use Rattle.tftp_loop.specs.Steps.{ReceivesRequest}
+use Rattle.tftp_loop.proofs.Common.{arith, ◌≡◌, ◌≤◌, ◌==◌, ◌||◌, ◌&&◌, not, ◌⊎◌, ℕ, Bool, true, false, List, cond, Some}
+use Rattle.tftp_loop.proofs.Common.{map, refl, sym, ap, subst, ◌∙◌, inl, inr, is_some, All, ◌≢◌, list_any, ne_eqb}
+use Rattle.tftp_loop.proofs.Common.{none-some, same_Some, SourceMeaning, Endpoint, StoreMeaning, is_among, was_tried}
+use Rattle.tftp_loop.proofs.Common.{Run, Start, Then, Timer, PortState, LoopState, PortStep, LoopStep, port_state}
+use Rattle.tftp_loop.proofs.Common.{at_start, set_by, until_look, A_timeout, A_missed_timeout, Work, Waited, At_port}
+use Rattle.tftp_loop.proofs.Common.{Request_received, No_request_found, Request_not_received, Request_noted}
+use Rattle.tftp_loop.proofs.Common.{Request_answered, Request_lost, is_draining, reads_requests, IsNoWait}
 use Rattle.tftp_loop.specs.Reported.{GoesOn, Goes_by}
-use Rattle.tftp_loop.specs.Handled.{By_answer, By_loss, IsResolved, Resolves}
+use Rattle.tftp_loop.specs.Handled.{By_answer, By_loss, HandlesBeforeItSleeps, HandlesByTheNextWait, IsResolved}
+use Rattle.tftp_loop.specs.Handled.{ReadsTheRequestPort, Resolves}
 use Rattle.tftp_loop.proofs.OwnPorts.{HasItsOwnPort, own_from}
 use Rattle.tftp_loop.proofs.NoteLemmas.{note_tried}
-use Rattle.tftp_loop.proofs.PortStays.{or_left, or_right, own_receive, replied_tries, stays_at}
+use Rattle.tftp_loop.proofs.PortStays.{or_left, or_right, own_receive}
 use Rattle.tftp_loop.proofs.RunLemmas.{onward}
-use Rattle.tftp_loop.proofs.NewStates.{state_is, trace_is}
+use Rattle.tftp_loop.proofs.Sleeping.{step_tries}
+use Rattle.tftp_loop.proofs.NewStates.{noted_by, replied_same, same_noted, same_requests, state_is}
 
 -- a wait with a pending datagram takes no time
 no_time : (a p c : Bool) (n m : ℕ) → p ≡ true → m ≤ cond (a || (p || c)) 0 n → m ≤ 0
@@ -31,16 +30,6 @@ reads_so false marked on m = m
 -- a receive at another port
 other_untried : (port r : ℕ) (tried : Bool) → (port ≡ r → ⊥) → tried ≡ false → ((port == r) || tried) ≡ false
 other_untried port r tried apart h = ap (λ (b : Bool). b || tried) (ne_eqb port r apart) ∙ h
-
-answered_untried : (r port : ℕ) (reply : Option Reply) (es : List SocketEvent) → was_tried r es ≡ false
-    → was_tried r (answered port reply es) ≡ false
-answered_untried r port None es h = h
-answered_untried r port (Some reply) es h = h
-
-replied_untried : (r port : ℕ) (to : Option Endpoint) (bytes : List ℕ) (es : List SocketEvent) → was_tried r es ≡ false
-    → was_tried r (replied port to bytes es) ≡ false
-replied_untried r port None bytes es h = h
-replied_untried r port (Some to) bytes es h = h
 
 module _ {S F D : Type 0} (meaning : StoreMeaning S D) (sources : SourceMeaning F) where
   -- ---- a pending datagram
@@ -92,10 +81,7 @@ module _ {S F D : Type 0} (meaning : StoreMeaning S D) (sources : SourceMeaning 
       ]
 
   -- before the server may sleep a datagram of the request port is answered or lost
-  pub handles_before_it_sleeps : (old received last new : LoopState S F D)
-      (receives : ReceivesRequest meaning sources old received) → Run (LoopStep meaning sources) received last
-      → (waits : Waits meaning sources last new) → 1 ≤ waits.millis
-      → IsResolved meaning sources receives.from receives.bytes received last
+  pub handles_before_it_sleeps : HandlesBeforeItSleeps meaning sources
   handles_before_it_sleeps old received last new receives run waits some =
       elim (pending_along receives.from receives.bytes received last run
       (ap (λ (u : LoopState S F D). u.pending) receives.is)) [
@@ -112,19 +98,12 @@ module _ {S F D : Type 0} (meaning : StoreMeaning S D) (sources : SourceMeaning 
   does_of s t Start = Start
   does_of s t (Then {middle} run (Goes_by does is)) = Then (does_of s middle run) does
 
-  port_untried : (r now : ℕ) (old new : PortState S F D) → PortStep meaning sources now old new
-      → (old.timer.port ≡ r → ⊥) → was_tried r old.events ≡ false → was_tried r new.events ≡ false
-  port_untried r now old new (A_datagram d) apart h =
-      let received = Received old.timer.port d.from d.bytes ∷ old.events in
-      ap (was_tried r) d.handles.events ∙ answered_untried r old.timer.port d.handles.takes.takes.turn.reply received
-      (other_untried old.timer.port r (was_tried r old.events) apart h)
-  port_untried r now old new (A_timeout d) apart h =
-      ap (was_tried r) d.times_out.events ∙ answered_untried r old.timer.port _
-      (Elapsed old.timer.port now ∷ old.events) h
-  port_untried r now old new (A_missed_timeout d) apart h = ap (was_tried r) d.events ∙ h
-  port_untried r now old new (Work d) apart h = ap (was_tried r) d.events ∙ h
-  port_untried r now old new does apart h =
-      ap (was_tried r) (trace_is does) ∙ other_untried old.timer.port r (was_tried r old.events) apart h
+  noted_untried : (r now : ℕ) (old new : PortState S F D) (does : PortStep meaning sources now old new)
+      → (old.timer.port ≡ r → ⊥) → was_tried r old.events ≡ false → was_tried r (noted_by does) ≡ false
+  noted_untried r now old new (A_timeout d) apart h = h
+  noted_untried r now old new (A_missed_timeout d) apart h = h
+  noted_untried r now old new (Work d) apart h = h
+  noted_untried r now old new does apart h = other_untried old.timer.port r (was_tried r old.events) apart h
 
   abbrev Untried : LoopState S F D → Type 0
   Untried s = was_tried s.requests s.events ≡ false
@@ -135,8 +114,8 @@ module _ {S F D : Type 0} (meaning : StoreMeaning S D) (sources : SourceMeaning 
       → s.pending ≡ Some (from, bytes) → Untried s → Untried t
   step_untried from bytes s t (Waited d) is own pending h = absurd is
   step_untried from bytes s t (At_port d) is own pending h =
-      subst Untried (sym d.is)
-      (port_untried s.requests s.now (port_state s d.timer) d.next d.does
+      subst Untried (sym d.is) (same_noted (was_tried s.requests) (λ p t bs es. refl) d.does
+      ∙ noted_untried s.requests s.now (port_state s d.timer) d.next d.does
       (λ e. own d.index d.timer d.within (ap (λ (u : Timer). u.port) (sym d.is_timer) ∙ e)) h)
   step_untried from bytes s t (Request_received d) is own pending h =
       absurd (none-some (from, bytes) (sym d.none ∙ pending))
@@ -147,7 +126,8 @@ module _ {S F D : Type 0} (meaning : StoreMeaning S D) (sources : SourceMeaning 
   step_untried from bytes s t (Request_noted d) is own pending h =
       subst Untried (sym d.is) (note_tried s.requests (was_tried s.requests s.events) d.note ∙ h)
   step_untried from bytes s t (Request_answered d) is own pending h =
-      subst Untried (sym d.is) (replied_untried s.requests _ d.left.opened.to d.left.sent s.events h)
+      subst Untried (sym d.is)
+      (replied_same (was_tried s.requests) (λ p t bs es. refl) _ d.left.opened.to d.left.sent s.events ∙ h)
   step_untried from bytes s t does is own pending h = subst Untried (sym (state_is does)) h
 
   abbrev Stays_pending : Endpoint → List ℕ → LoopState S F D → LoopState S F D → Type 0
@@ -179,13 +159,7 @@ module _ {S F D : Type 0} (meaning : StoreMeaning S D) (sources : SourceMeaning 
       ]
 
   -- it is so by the next wait, whether or not the server may sleep
-  pub handles_by_the_next_wait : (config : LoopConfig) (port reading : ℕ) (server : ServerState S F D)
-      (before : List SocketEvent) (old received waiting woken last new : LoopState S F D)
-      → Run (LoopStep meaning sources) (at_start config port server reading before) old
-      → (receives : ReceivesRequest meaning sources old received) → Run (LoopStep meaning sources) received waiting
-      → Waits meaning sources waiting woken → Run (GoesOn meaning sources) woken last
-      → Waits meaning sources last new
-      → IsResolved meaning sources receives.from receives.bytes received last
+  pub handles_by_the_next_wait : HandlesByTheNextWait meaning sources
   handles_by_the_next_wait config port reading server before old received waiting woken last new begins receives run waits goes next =
       let own : HasItsOwnPort meaning sources woken last =
       own_from meaning sources (at_start config port server reading before) woken last refl
@@ -205,35 +179,16 @@ module _ {S F D : Type 0} (meaning : StoreMeaning S D) (sources : SourceMeaning 
   abbrev Reads : LoopState S F D → Type 0
   Reads s = (s.marked ≡ true) ⊎ (was_tried s.requests s.events ≡ true)
 
-  same_reads : (s t : LoopState S F D) → t.marked ≡ s.marked → t.requests ≡ s.requests
-      → (was_tried s.requests s.events ≡ true → was_tried s.requests t.events ≡ true) → Reads s → Reads t
-  same_reads s t marked requests tries (inl h) = inl (marked ∙ h)
-  same_reads s t marked requests tries (inr h) = inr (subst (λ (port : ℕ). was_tried port t.events ≡ true)
-      (sym requests) (tries h))
-
-  kept_tries : (port : ℕ) (es fs : List SocketEvent) → fs ≡ es → was_tried port es ≡ true → was_tried port fs ≡ true
-  kept_tries port es fs same h = ap (was_tried port) same ∙ h
-
   step_reads : (s t : LoopState S F D) (does : LoopStep meaning sources s t) → IsNoWait meaning sources does → Reads s
       → Reads t
-  step_reads s t (Waited d) is reads = absurd is
-  step_reads s t (At_port d) is reads =
-      same_reads s t (ap (λ (u : LoopState S F D). u.marked) d.is) (ap (λ (u : LoopState S F D). u.requests) d.is)
-      (λ h. kept_tries s.requests d.next.events t.events (ap (λ (u : LoopState S F D). u.events) d.is)
-      ((stays_at meaning sources s.now (port_state s d.timer) d.next d.does).tries s.requests h)) reads
-  step_reads s t (Request_received d) is reads = inl (ap (λ (u : LoopState S F D). u.marked) d.is)
-  step_reads s t (No_request_found d) is reads = subst Reads (sym d.is)
-      (inr (own_receive s.requests (was_tried s.requests s.events)))
-  step_reads s t (Request_not_received d) is reads = inl (ap (λ (u : LoopState S F D). u.marked) d.is)
-  step_reads s t (Request_noted d) is reads =
-      same_reads s t (ap (λ (u : LoopState S F D). u.marked) d.is) (ap (λ (u : LoopState S F D). u.requests) d.is)
-      (λ h. kept_tries s.requests _ t.events (ap (λ (u : LoopState S F D). u.events) d.is)
-      (note_tried s.requests (was_tried s.requests s.events) d.note ∙ h)) reads
-  step_reads s t (Request_answered d) is reads =
-      same_reads s t (ap (λ (u : LoopState S F D). u.marked) d.is) (ap (λ (u : LoopState S F D). u.requests) d.is)
-      (λ h. kept_tries s.requests _ t.events (ap (λ (u : LoopState S F D). u.events) d.is)
-      (replied_tries _ d.left.opened.to d.left.sent s.events s.requests h)) reads
-  step_reads s t does is reads = subst Reads (sym (state_is does)) reads
+  step_reads s t does is (inr tried) =
+      inr (rw (same_requests does) (step_tries meaning sources s t does is s.requests tried))
+  step_reads s t (Waited d) is (inl marked) = absurd is
+  step_reads s t (No_request_found d) is (inl marked) =
+      subst Reads (sym d.is) (inr (own_receive s.requests (was_tried s.requests s.events)))
+  step_reads s t (Request_received d) is (inl marked) = inl (ap (λ (u : LoopState S F D). u.marked) d.is)
+  step_reads s t (Request_not_received d) is (inl marked) = inl (ap (λ (u : LoopState S F D). u.marked) d.is)
+  step_reads s t does is (inl marked) = subst Reads (sym (state_is does)) (inl marked)
 
   reads_along : (s t : LoopState S F D) → Run (GoesOn meaning sources) s t → Reads s → Reads t
   reads_along s t Start reads = reads
@@ -241,9 +196,7 @@ module _ {S F D : Type 0} (meaning : StoreMeaning S D) (sources : SourceMeaning 
       step_reads middle t does is (reads_along s middle run reads)
 
   -- a request port that a wait reports is read before the next wait
-  pub reads_the_request_port : (old woken last new : LoopState S F D) (waits : Waits meaning sources old woken)
-      → is_among old.requests waits.ports ≡ true → Run (GoesOn meaning sources) woken last
-      → Waits meaning sources last new → is_draining last.drain ≡ false → was_tried last.requests last.events ≡ true
+  pub reads_the_request_port : ReadsTheRequestPort meaning sources
   reads_the_request_port old woken last new waits among run next on =
       let marked : woken.marked ≡ true = ap (λ (u : LoopState S F D). u.marked) waits.is
       ∙ or_right old.marked (is_among old.requests waits.ports) among in

@@ -15,7 +15,7 @@ pub record InTime (start : ℕ) (backoff : Backoff) (interval most since deadlin
   pub due : deadline ≤ start + waits_of backoff interval spent + in_millis (wait_of backoff interval spent)
   pub newest : since ≤ start + waits_of backoff interval spent + in_millis (wait_of backoff interval spent)
 
-module _ (start : ℕ) (backoff : Backoff) (interval most : ℕ) where
+module _ (backoff : Backoff) (interval : ℕ) where
   -- the latest deadline after so many timeouts
   abbrev until : ℕ → ℕ
   until n = waits_of backoff interval n + in_millis (wait_of backoff interval n)
@@ -31,17 +31,15 @@ module _ (start : ℕ) (backoff : Backoff) (interval most : ℕ) where
       let same : until n ≡ until zero = ap until (let e : n ≡ zero = omega (arith, h) in e) in omega (arith, same)
   until_more n (suc m) h = elim (cases_eq n (suc m)) [
     | inl e ↦ let same : until n ≡ until (suc m) = ap until e in omega (arith, same)
-    | inr other ↦
-        let before = until_more n m (omega (arith, h, other)) in
-        let next = until_next m in
-        omega (arith, before, next)
+    | inr other ↦ omega (arith, until_more n m (omega (arith, h, other)), until_next m)
   ]
 
+module _ {start : ℕ} {backoff : Backoff} {interval most : ℕ} where
   -- a timer that was set in this round is in time
-  pub first_time : (since deadline timeouts left : ℕ) → since ≤ start
+  pub first_time : {since deadline timeouts left : ℕ} → since ≤ start
       → deadline ≤ start + in_millis (wait_of backoff interval timeouts) → timeouts + left ≤ most + 1
       → InTime start backoff interval most since deadline timeouts left
-  first_time since deadline timeouts left from near few = record {
+  first_time {timeouts = timeouts} from near few = record {
     spent = timeouts;
     few = omega (arith, few);
     used = omega arith;
@@ -50,58 +48,47 @@ module _ (start : ℕ) (backoff : Backoff) (interval most : ℕ) where
   }
 
   -- an earlier deadline and fewer timeouts are in time, too
-  pub no_later : (since deadline deadline' timeouts timeouts' left left' : ℕ) → deadline' ≤ deadline
+  pub no_later : {since deadline deadline' timeouts timeouts' left left' : ℕ} → deadline' ≤ deadline
       → timeouts' ≤ timeouts → left' ≤ left → InTime start backoff interval most since deadline timeouts left
       → InTime start backoff interval most since deadline' timeouts' left'
-  no_later since deadline deadline' timeouts timeouts' left left' sooner less fewer t =
-      let few = t.few in
-      let used = t.used in
-      let due = t.due in
-      record {
-        spent = t.spent;
-        few = omega (arith, few, fewer);
-        used = omega (arith, used, less);
-        due = omega (arith, due, sooner);
-        newest = t.newest;
-      }
+  no_later sooner less fewer t = record {
+    spent = t.spent;
+    few = omega (arith, t.few, fewer);
+    used = omega (arith, t.used, less);
+    due = omega (arith, t.due, sooner);
+    newest = t.newest;
+  }
 
   -- a timeout in the round in which it was due
-  timed_out : (since deadline deadline' timeouts timeouts' left left' : ℕ)
+  timed_out : {since deadline deadline' timeouts timeouts' left left' : ℕ}
       → deadline' ≤ since + LONGEST_WAIT + in_millis (wait_of backoff interval timeouts') → timeouts' ≤ timeouts + 1
       → left' + 1 ≤ left → InTime start backoff interval most since deadline timeouts left
       → InTime start backoff interval most since deadline' timeouts' left'
-  timed_out since deadline deadline' timeouts timeouts' left left' near more fewer t =
-      let few = t.few in
-      let used = t.used in
-      let newest = t.newest in
+  timed_out {timeouts' = timeouts'} near more fewer t =
       let next : waits_of backoff interval (suc t.spent)
       ≡ waits_of backoff interval t.spent + (in_millis (wait_of backoff interval t.spent) + LONGEST_WAIT) = refl in
-      let longer = wait_more backoff interval timeouts' (suc t.spent) (omega (arith, more, used)) in
+      let longer = wait_more backoff interval timeouts' (suc t.spent) (omega (arith, more, t.used)) in
       record {
         spent = suc t.spent;
-        few = omega (arith, few, fewer);
-        used = omega (arith, more, used);
-        due = omega (arith, newest, near, next, longer);
-        newest = omega (arith, newest, next);
+        few = omega (arith, t.few, fewer);
+        used = omega (arith, more, t.used);
+        due = omega (arith, t.newest, near, next, longer);
+        newest = omega (arith, t.newest, next);
       }
 
   -- at a wait the deadline is to come
-  pub rested : (since deadline now timeouts left : ℕ) → now ≤ deadline
+  pub rested : {since deadline now timeouts left : ℕ} → now ≤ deadline
       → InTime start backoff interval most since deadline timeouts left
       → InTime start backoff interval most now deadline timeouts left
-  rested since deadline now timeouts left before t =
-      let due = t.due in
-      record { spent = t.spent; few = t.few; used = t.used; due = t.due; newest = omega (arith, due, before) }
+  rested before t =
+      record { spent = t.spent; few = t.few; used = t.used; due = t.due; newest = omega (arith, t.due, before) }
 
   -- a timer that is in time is due before the retries are spent
-  pub at_last : (since deadline now timeouts left : ℕ) → 1 ≤ left → now ≤ deadline
+  pub at_last : {since deadline now timeouts left : ℕ} → 1 ≤ left → now ≤ deadline
       → InTime start backoff interval most since deadline timeouts left
       → now ≤ start + waits_of backoff interval most + in_millis (wait_of backoff interval most)
-  at_last since deadline now timeouts left some before t =
-      let few = t.few in
-      let due = t.due in
-      let last = until_more t.spent most (omega (arith, few, some)) in
-      omega (arith, due, before, last)
+  at_last some before t =
+      omega (arith, t.due, before, until_more backoff interval t.spent most (omega (arith, t.few, some)))
 
 -- the latest that a deadline may be in this round, with a wait of so many seconds: a provisional one is yet to be set
 abbrev pub latest : ℕ → Bool → ℕ → ℕ → ℕ
@@ -126,85 +113,74 @@ set_early since time true timer soon =
 set_early since time false timer soon = omega arith
 
 -- ---- what a step at the port leaves
-module _ (start : ℕ) (backoff : Backoff) (interval most : ℕ) (Idle Silent : Type 0) (now since : ℕ) (timer timer' : Timer)
-    (e e' : EndState) (changes : Changes Idle Silent now timer timer' e e') where
+module _ (start since : ℕ) (backoff : Backoff) (interval most : ℕ) where
   abbrev KeepsTime : Timer → EndState → Type 0
   KeepsTime t f =
       InTime start backoff interval most since (last_of since t) t.timeouts (timeouts_left f)
 
   -- a step that makes no progress leaves the transfer in time
-  pub changes_in_time : Idle → timer.interval ≡ interval → timer.backoff ≡ backoff → now ≤ since + LONGEST_WAIT
-      → (1 ≤ timeouts_left e → KeepsTime timer e) → 1 ≤ timeouts_left e' → KeepsTime timer' e'
-  changes_in_time idle interval_is backoff_is soon before some = elim changes [
-    | By_datagram progress handled is_idle silent is ↦
-        let still = is_idle idle in
-        let fewer = handled.left still in
-        let same = is ∙ ap (λ (b : Bool). timer_after now b timer) still in
-        let deadline : last_of since timer' ≡ last_of since timer = ap (last_of since) same in
-        let timeouts : timer'.timeouts ≡ timer.timeouts = ap (λ (t : Timer). t.timeouts) same in
-        no_later start backoff interval most since (last_of since timer) (last_of since timer') timer.timeouts
-        timer'.timeouts (timeouts_left e) (timeouts_left e') (omega (arith, deadline)) (omega (arith, timeouts)) fewer
-        (before (omega (arith, some, fewer)))
-    | By_timeout again live end is ↦
-        let same : timeouts_left e' ≡ timeouts_left (after_turn e (timeout_turn e)) =
-        ap (λ (f : EndState). timeouts_left f) end in
-        let spends : timeouts_left (after_turn e (timeout_turn e)) + 1 ≤ timeouts_left e =
-        (timeout_spends e).left (omega (arith, some, same)) in
-        let later = timeouts_after again timer.timeouts in
-        let timeouts : timer'.timeouts ≡ later = ap (λ (t : Timer). t.timeouts) is in
-        let more = spent_after again timer.timeouts in
-        let own = wait_of timer.backoff timer.interval later in
-        let wait : own ≡ wait_of backoff interval timer'.timeouts =
-        ap (λ (b : Backoff). wait_of b timer.interval later) backoff_is
-        ∙ (ap (λ (i : ℕ). wait_of backoff i later) interval_is
-        ∙ ap (λ (n : ℕ). wait_of backoff interval n) (sym timeouts)) in
-        let deadline : last_of since timer' ≡ max (deadline_of now own) (since + LONGEST_WAIT + in_millis own) =
-        ap (last_of since) is in
-        let near : deadline_of now own ≤ now + own * 1000 = omega arith in
-        timed_out start backoff interval most since (last_of since timer) (last_of since timer') timer.timeouts
-        timer'.timeouts (timeouts_left e) (timeouts_left e') (omega (arith, deadline, near, soon, wait))
-        (omega (arith, timeouts, more)) (omega (arith, spends, same)) (before live)
-    | By_late_timeout end none is ↦
-        let same : timeouts_left e' ≡ timeouts_left e = ap (λ (f : EndState). timeouts_left f) end in
-        absurd (omega (arith, some, same, none))
-    | By_nothing end deadline wait timeouts provisional ↦
-        let same : timeouts_left e' ≡ timeouts_left e = ap (λ (f : EndState). timeouts_left f) end in
-        let here : last_of since timer' ≡ last_of since timer =
-        ap (λ (b : Bool). latest since b (wait_in timer') timer'.deadline) provisional
-        ∙ (ap (λ (n : ℕ). latest since timer.provisional n timer'.deadline) wait
-        ∙ ap (λ (n : ℕ). latest since timer.provisional (wait_in timer) n) deadline) in
-        no_later start backoff interval most since (last_of since timer) (last_of since timer') timer.timeouts
-        timer'.timeouts (timeouts_left e) (timeouts_left e') (omega (arith, here)) (omega (arith, timeouts))
-        (omega (arith, same)) (before (omega (arith, some, same)))
-  ]
+  pub changes_in_time : {Idle Silent : Type 0} {now : ℕ} {timer timer' : Timer} {e e' : EndState}
+      → Changes Idle Silent now timer timer' e e' → Idle → timer.interval ≡ interval → timer.backoff ≡ backoff
+      → now ≤ since + LONGEST_WAIT → (1 ≤ timeouts_left e → KeepsTime timer e) → 1 ≤ timeouts_left e'
+      → KeepsTime timer' e'
+  changes_in_time {now = now} {timer} {timer'} (By_datagram progress handled is_idle silent is) idle interval_is backoff_is
+      soon before some =
+      let still = is_idle idle in
+      let fewer = handled.left still in
+      let same = is ∙ ap (λ (b : Bool). timer_after now b timer) still in
+      let deadline : last_of since timer' ≡ last_of since timer = ap (last_of since) same in
+      let timeouts : timer'.timeouts ≡ timer.timeouts = ap (λ (t : Timer). t.timeouts) same in
+      no_later (omega (arith, deadline)) (omega (arith, timeouts)) fewer (before (omega (arith, some, fewer)))
+  changes_in_time {now = now} {timer} {timer'} {e} {e'} (By_timeout again live end is) idle interval_is backoff_is soon
+      before some =
+      let same : timeouts_left e' ≡ timeouts_left (after_turn e (timeout_turn e)) = ap timeouts_left end in
+      let spends : timeouts_left (after_turn e (timeout_turn e)) + 1 ≤ timeouts_left e =
+      (timeout_spends e).left (omega (arith, some, same)) in
+      let later = timeouts_after again timer.timeouts in
+      let timeouts : timer'.timeouts ≡ later = ap (λ (t : Timer). t.timeouts) is in
+      let more = spent_after again timer.timeouts in
+      let own = wait_of timer.backoff timer.interval later in
+      let wait : own ≡ wait_of backoff interval timer'.timeouts = rw (interval_is, backoff_is, timeouts) refl in
+      let deadline : last_of since timer' ≡ max (deadline_of now own) (since + LONGEST_WAIT + in_millis own) =
+      ap (last_of since) is in
+      let near : deadline_of now own ≤ now + own * 1000 = omega arith in
+      timed_out (omega (arith, deadline, near, soon, wait)) (omega (arith, timeouts, more))
+      (omega (arith, spends, same)) (before live)
+  changes_in_time (By_late_timeout end none is) idle interval_is backoff_is soon before some =
+      absurd (omega (arith, some, ap timeouts_left end, none))
+  changes_in_time {timer = timer} {timer'} {e} {e'} (By_nothing end deadline wait timeouts provisional) idle interval_is
+      backoff_is soon before some =
+      let same : timeouts_left e' ≡ timeouts_left e = ap timeouts_left end in
+      let here : last_of since timer' ≡ last_of since timer = rw (provisional, wait, deadline) refl in
+      no_later (omega (arith, here)) (omega (arith, timeouts)) (omega (arith, same)) (before (omega (arith, some, same)))
 
+-- how an end closes in silence from the first one on, if it does from the one before
+closes_first : (e e0 : EndState) (outcome : Outcome)
+    → is_complete e.position.phase ≡ is_complete e0.position.phase
+    → ((o : Outcome) → outcome_of e.position.phase ≡ Some o → ClosesInSilence e0.position.phase o)
+    → ClosesInSilence e.position.phase outcome → ClosesInSilence e0.position.phase outcome
+closes_first e e0 outcome complete closes (inl timed) = inl timed
+closes_first e e0 outcome complete closes (inr (inl done)) = inr (inl (done.0, sym complete ∙ done.1))
+closes_first e e0 outcome complete closes (inr (inr closed)) = closes outcome closed
+
+module _ {Idle Silent : Type 0} {now : ℕ} {timer timer' : Timer} {e e' : EndState} where
   -- a step without a datagram of the peer does not complete the transfer
-  pub changes_complete : Silent → is_complete e'.position.phase ≡ is_complete e.position.phase
-  changes_complete quiet = elim changes [
-    | By_datagram progress handled is_idle silent is ↦ absurd (silent quiet)
-    | By_timeout again live end is ↦ ap (λ (f : EndState). is_complete f.position.phase) end ∙ (timeout_spends e).complete
-    | By_late_timeout end none is ↦ ap (λ (f : EndState). is_complete f.position.phase) end
-    | By_nothing end deadline wait timeouts provisional ↦ ap (λ (f : EndState). is_complete f.position.phase) end
-  ]
+  pub changes_complete : Changes Idle Silent now timer timer' e e' → Silent
+      → is_complete e'.position.phase ≡ is_complete e.position.phase
+  changes_complete (By_datagram progress handled is_idle silent is) quiet = absurd (silent quiet)
+  changes_complete (By_timeout again live end is) quiet = rw end (timeout_spends e).complete
+  changes_complete (By_late_timeout end none is) quiet = rw end refl
+  changes_complete (By_nothing end deadline wait timeouts provisional) quiet = rw end refl
 
-  -- from the end before to the first one
-  closes_first : (e0 : EndState) (outcome : Outcome) → is_complete e.position.phase ≡ is_complete e0.position.phase
-      → ((o : Outcome) → outcome_of e.position.phase ≡ Some o → ClosesInSilence e0.position.phase o)
-      → ClosesInSilence e.position.phase outcome → ClosesInSilence e0.position.phase outcome
-  closes_first e0 outcome complete closes (inl timed) = inl timed
-  closes_first e0 outcome complete closes (inr (inl done)) = inr (inl (done.0, sym complete ∙ done.1))
-  closes_first e0 outcome complete closes (inr (inr closed)) = closes outcome closed
-
-  -- without a datagram of the peer the transfer closes only as one in silence does
-  pub changes_closes : Silent → (e0 : EndState) → is_complete e.position.phase ≡ is_complete e0.position.phase
+  -- and closes it only as one closes in silence
+  pub changes_closes : Changes Idle Silent now timer timer' e e' → Silent → (e0 : EndState)
+      → is_complete e.position.phase ≡ is_complete e0.position.phase
       → ((o : Outcome) → outcome_of e.position.phase ≡ Some o → ClosesInSilence e0.position.phase o)
       → (o : Outcome) → outcome_of e'.position.phase ≡ Some o → ClosesInSilence e0.position.phase o
-  changes_closes quiet e0 complete closes o closed = elim changes [
-    | By_datagram progress handled is_idle silent is ↦ absurd (silent quiet)
-    | By_timeout again live end is ↦
-        closes_first e0 o complete closes ((timeout_spends e).closes o
-        (sym (ap (λ (f : EndState). outcome_of f.position.phase) end) ∙ closed))
-    | By_late_timeout end none is ↦ closes o (sym (ap (λ (f : EndState). outcome_of f.position.phase) end) ∙ closed)
-    | By_nothing end deadline wait timeouts provisional ↦ closes o (sym (ap (λ (f : EndState). outcome_of f.position.phase) end)
-        ∙ closed)
-  ]
+  changes_closes (By_datagram progress handled is_idle silent is) quiet e0 complete closes o closed =
+      absurd (silent quiet)
+  changes_closes (By_timeout again live end is) quiet e0 complete closes o closed =
+      closes_first e e0 o complete closes ((timeout_spends e).closes o (rw end at closed))
+  changes_closes (By_late_timeout end none is) quiet e0 complete closes o closed = closes o (rw end at closed)
+  changes_closes (By_nothing end deadline wait timeouts provisional) quiet e0 complete closes o closed =
+      closes o (rw end at closed)

@@ -2,17 +2,15 @@
 -- For the law a_server_sends_only_what_was_asked.
 use Rattle.tftp_loop.proofs.Common.{arith, ◌≡◌, ◌≤◌, ◌⊎◌, ℕ, suc, Bool, List, [], ◌∷◌, ◌++◌, length, Option, Some, None}
 use Rattle.tftp_loop.proofs.Common.{refl, sym, ap, subst, ◌∙◌, inl, inr, All, slice_index_or, ⊤, AllByRecursion}
-use Rattle.tftp_loop.proofs.Common.{values_of, Mode, RawOption, Packet, Read, Request, path_of_name, SinkMeaning}
-use Rattle.tftp_loop.proofs.Common.{SourceMeaning, Files, Source, Sink, datagram_action, EndState, Position, ServesRead}
-use Rattle.tftp_loop.proofs.Common.{Acts, Reply, Turn, after_turn, error_bytes, timeout_turn, Action, Respond, Send}
-use Rattle.tftp_loop.proofs.Common.{Store, Endpoint, Known, Limits, StoreMeaning, drafting_sink, Ask, Came, Nothing}
-use Rattle.tftp_loop.proofs.Common.{Error_reply, A_transfer, Left, left_by, TransferState, ServerState, at, with_new}
-use Rattle.tftp_loop.proofs.Common.{with_next, without, KeepsHeld, with_end, WorksAt, SocketEvent, answered, Received}
-use Rattle.tftp_loop.proofs.Common.{Elapsed, An_ack, A_block, Run, Start, Then, PortState, LoopState, PortStep}
-use Rattle.tftp_loop.proofs.Common.{LoopStep, after_request, port_state, A_datagram, A_lost_datagram, A_timeout, Work}
-use Rattle.tftp_loop.proofs.Common.{Waited, At_port, Request_received, Request_answered, Request_lost, Store_set}
-use Rattle.tftp_loop.proofs.Common.{Transfer_closed}
-use Rattle.std.proofs.Common.{Ok}
+use Rattle.tftp_loop.proofs.Common.{values_of, Mode, RawOption, Packet, Read, SinkMeaning, SourceMeaning, Files, Source}
+use Rattle.tftp_loop.proofs.Common.{Sink, datagram_action, EndState, Position, ServesRead, Acts, Reply, Turn}
+use Rattle.tftp_loop.proofs.Common.{after_turn, error_bytes, timeout_turn, Action, Respond, Send, Store, Endpoint}
+use Rattle.tftp_loop.proofs.Common.{Known, Limits, StoreMeaning, drafting_sink, Ask, Came, Nothing, Error_reply}
+use Rattle.tftp_loop.proofs.Common.{A_transfer, left_by, TransferState, ServerState, at, with_new, with_next, without}
+use Rattle.tftp_loop.proofs.Common.{KeepsHeld, with_end, WorksAt, SocketEvent, answered, Received, Elapsed, An_ack}
+use Rattle.tftp_loop.proofs.Common.{A_block, Run, Start, Then, PortState, LoopState, PortStep, LoopStep, after_request}
+use Rattle.tftp_loop.proofs.Common.{port_state, A_datagram, A_lost_datagram, A_timeout, Work, Waited, At_port}
+use Rattle.tftp_loop.proofs.Common.{Request_received, Request_answered, Request_lost, Store_set, Transfer_closed}
 use Rattle.std.specs.Prelude.{max}
 use Rattle.std.specs.List.{Contains}
 use Rattle.tftp_wire.specs.Spelling.{Spells}
@@ -29,8 +27,9 @@ use Rattle.tftp_server.specs.Port.{asks}
 use Rattle.tftp_server.specs.Steps.{StepIn}
 use Rattle.tftp_server.specs.Work.{FilesWork}
 use Rattle.tftp_sockets.specs.Trace.SocketEvent.{Sent}
-use Rattle.tftp_loop.specs.Leaving.{AskedFor, HasRoot, HasWritten, IsSaid, LeavesOnly, At_first, And_then, An_error}
-use Rattle.tftp_loop.specs.Leaving.{An_oack, MayHappen, MayLeave, largest_block}
+use Rattle.tftp_loop.specs.Leaving.{AskedFor, Asks, HasRoot, HasWritten, IsSaid, LeavesOnly, At_first, And_then}
+use Rattle.tftp_loop.specs.Leaving.{An_error, An_oack, MayHappen, SendsOnlyGiven, largest_block}
+use Rattle.tftp_loop.proofs.Adding.{Adds, port_adds}
 use Rattle.tftp_loop.proofs.AnsweringEnds.{AnswersOne, GivesOnly, IsAt, NoBlock, SendsTo, To_other, To_peer}
 use Rattle.tftp_loop.proofs.AnsweringEnds.{datagram_answers, timeout_answers}
 use Rattle.tftp_loop.proofs.AskedFiles.{reads_by}
@@ -38,7 +37,7 @@ use Rattle.tftp_loop.proofs.HeldLemmas.{held_at, held_new, held_next, held_witho
 use Rattle.tftp_loop.proofs.OpenedEnds.{BeginsAt, OpensFor, OpensIn, To_read, To_write, opens_for, serves_begins}
 use Rattle.tftp_loop.proofs.OpenedEnds.{write_begins}
 use Rattle.tftp_loop.proofs.PortEnds.{same_config}
-use Rattle.tftp_loop.proofs.NewStates.{state_is, trace_is, server_is}
+use Rattle.tftp_loop.proofs.NewStates.{answer_is, state_is, trace_is, server_is}
 use Rattle.tftp_negotiate.specs.declared.known.Kind.TheVariants as kinds
 
 -- ---- what a list contains
@@ -47,6 +46,10 @@ contains_first x xs = (0, omega arith, refl)
 
 contains_later : {T : Type 0} (x y : T) (xs : List T) → Contains xs y → Contains (x ∷ xs) y
 contains_later x y xs c = let within = c.1 in (suc c.0, omega (arith, within), c.2)
+
+contains_after : {T : Type 0} (y : T) (more xs : List T) → Contains xs y → Contains (more ++ xs) y
+contains_after y [] xs c = c
+contains_after y (x ∷ more) xs c = contains_later x y (more ++ xs) (contains_after y more xs c)
 
 written_later : (event : SocketEvent) (events : List SocketEvent) (peer : Endpoint) → HasWritten peer events
     → HasWritten peer (event ∷ events)
@@ -93,21 +96,12 @@ module _ {S F D : Type 0} (meaning : StoreMeaning S D) (sources : SourceMeaning 
   abbrev Asked : Endpoint → List SocketEvent → List ℕ → Type 0
   Asked peer events = AskedFor sources root requests largest peer events
 
-  -- the endpoint asked for a file, which was opened
-  record Asks (peer : Endpoint) (events : List SocketEvent) : Type 0 where
-    request : Request
-    bytes : List ℕ
-    spells : Spells (Read request) bytes
-    received : Contains events (Received requests peer bytes)
-    path : List ℕ
-    named : path_of_name request.name ≡ Ok path
-    first : F
-    stated : ℕ
-    opened : sources.opens root path request.mode stated first
+  abbrev AsksOf : Endpoint → List SocketEvent → Type 0
+  AsksOf peer events = Asks sources root requests largest peer events
 
   -- this source is left of it after so many calls
   record ReadsFor (peer : Endpoint) (events : List SocketEvent) (source : F) : Type 0 where
-    asks : Asks peer events
+    asks : AsksOf peer events
     text : List ℕ
     given : GivesInTurn sources asks.first text source
 
@@ -119,21 +113,11 @@ module _ {S F D : Type 0} (meaning : StoreMeaning S D) (sources : SourceMeaning 
   gives_asked : (peer : Endpoint) (events : List SocketEvent) (source source' : F) (piece : List ℕ)
       → ReadsFor peer events source → sources.gives source piece source' → Fits (length piece)
       → Asked peer events piece
-  gives_asked peer events source source' piece reads gives long =
-      let asks = reads.asks in
-      record {
-        request = asks.request;
-        bytes = asks.bytes;
-        spells = asks.spells;
-        received = asks.received;
-        path = asks.path;
-        named = asks.named;
-        first = asks.first;
-        stated = asks.stated;
-        opened = asks.opened;
-        gave = record { text = reads.text; before = source; after = source'; earlier = reads.given; gave = gives };
-        long = long;
-      }
+  gives_asked peer events source source' piece reads gives long = record {
+    asks = reads.asks;
+    gave = record { text = reads.text; before = source; after = source'; earlier = reads.given; gave = gives };
+    long = long;
+  }
 
   -- after a call
   reads_on : (peer : Endpoint) (events : List SocketEvent) (source source' : F) (piece : List ℕ)
@@ -141,45 +125,29 @@ module _ {S F D : Type 0} (meaning : StoreMeaning S D) (sources : SourceMeaning 
   reads_on peer events source source' piece reads gives =
       record { asks = reads.asks; text = reads.text ++ piece; given = Gave_more reads.given gives }
 
-  asked_later : (event : SocketEvent) (events : List SocketEvent) (peer : Endpoint) (piece : List ℕ)
-      → Asked peer events piece → Asked peer (event ∷ events) piece
-  asked_later event events peer piece asked = record {
-    request = asked.request;
-    bytes = asked.bytes;
-    spells = asked.spells;
-    received = contains_later event (Received requests peer asked.bytes) events asked.received;
-    path = asked.path;
-    named = asked.named;
-    first = asked.first;
-    stated = asked.stated;
-    opened = asked.opened;
-    gave = asked.gave;
-    long = asked.long;
+  abbrev asks_later : (event : SocketEvent) (events : List SocketEvent) (peer : Endpoint) → AsksOf peer events
+      → AsksOf peer (event ∷ events)
+  asks_later event events peer asks = record {
+    request = asks.request;
+    bytes = asks.bytes;
+    spells = asks.spells;
+    received = contains_later event (Received requests peer asks.bytes) events asks.received;
+    path = asks.path;
+    named = asks.named;
+    first = asks.first;
+    stated = asks.stated;
+    opened = asks.opened;
   }
 
-  reads_later : (event : SocketEvent) (events : List SocketEvent) (peer : Endpoint) (source : F)
-      → ReadsFor peer events source → ReadsFor peer (event ∷ events) source
-  reads_later event events peer source reads =
-      let asks = reads.asks in
-      record {
-        asks = record {
-          request = asks.request;
-          bytes = asks.bytes;
-          spells = asks.spells;
-          received = contains_later event (Received requests peer asks.bytes) events asks.received;
-          path = asks.path;
-          named = asks.named;
-          first = asks.first;
-          stated = asks.stated;
-          opened = asks.opened;
-        };
-        text = reads.text;
-        given = reads.given;
-      }
+  asked_later : (event : SocketEvent) (events : List SocketEvent) (peer : Endpoint) (piece : List ℕ)
+      → Asked peer events piece → Asked peer (event ∷ events) piece
+  asked_later event events peer piece asked =
+      record { asks = asks_later event events peer asked.asks; gave = asked.gave; long = asked.long }
 
   files_later : (event : SocketEvent) (events : List SocketEvent) (peer : Endpoint) (files : Files F D)
       → OfFiles peer events files → OfFiles peer (event ∷ events) files
-  files_later event events peer (Source source) of = reads_later event events peer source of
+  files_later event events peer (Source source) of =
+      record { asks = asks_later event events peer of.asks; text = of.text; given = of.given }
   files_later event events peer (Sink draft) of = tt
 
   -- a transfer is with an endpoint that wrote, and sends what that asked for
@@ -223,10 +191,12 @@ module _ {S F D : Type 0} (meaning : StoreMeaning S D) (sources : SourceMeaning 
   }
 
   leaves_next : (before : List SocketEvent) (port : ℕ) (held held' : List (ℕ × TransferState F D))
-      (events : List SocketEvent) (next : TransferState F D) → held' ≡ with_next port next held → IsFor events next
-      → Leaves before held events → Leaves before held' events
-  leaves_next before port held held' events next is own leaves = record {
-    transfers = held_next (IsFor events) port held held' next leaves.transfers own is;
+      (events : List SocketEvent) (transfer next : TransferState F D) → held' ≡ with_next port next held
+      → (own : IsFor events transfer) → IsAt Fits (Asked own.peer events) own.peer next.end.position
+      → OfFiles own.peer events next.files → Leaves before held events → Leaves before held' events
+  leaves_next before port held held' events transfer next is own at_peer files leaves = record {
+    transfers = held_next (IsFor events) port held held' next leaves.transfers
+        (record { peer = own.peer; at_peer = at_peer; files = files; written = own.written }) is;
     only = leaves.only;
   }
 
@@ -237,8 +207,7 @@ module _ {S F D : Type 0} (meaning : StoreMeaning S D) (sources : SourceMeaning 
   leaves_reply before held port to None events sends written leaves = leaves
   leaves_reply before held port to (Some reply) events sends written leaves =
       leaves_event before held (Sent port reply.to reply.bytes) events
-      (subst (λ (peer : Endpoint). MayLeave (AskedFor sources root requests largest) peer reply.bytes events) (sym sends.0)
-      (record { said = sends.1; written = written })) leaves
+      (rw (sends.0) (record { said = sends.1; written = written })) leaves
 
   no_block : (to : Endpoint) (events : List SocketEvent) (reply : Option Reply) → SendsTo NoBlock to reply
       → SendsTo (Asked to events) to reply
@@ -258,8 +227,7 @@ module _ {S F D : Type 0} (meaning : StoreMeaning S D) (sources : SourceMeaning 
 
     abbrev Gives : Files F D → Files F D → Type 0
     Gives files files' =
-        GivesOnly Fits (Asked peer events) sources drafts from bytes e turn (files_in store path replace files)
-        (files_in store' path' replace files')
+        GivesOnly Fits (Asked peer events) sources (files_in store path replace files) (files_in store' path' replace files')
 
     step_gives : (files files' : Files F D) → OfFiles peer events files → Gives files files'
     step_gives (Source own) files' of source source' piece size is is' gives fits long =
@@ -276,9 +244,8 @@ module _ {S F D : Type 0} (meaning : StoreMeaning S D) (sources : SourceMeaning 
           | inl same ↦ subst (ReadsFor peer events) (sym same) of
           | inr gave ↦ reads_on peer events source source' gave.0 of gave.1
         ]
-    step_files (Source source) (Sink draft) steps kind of = absurd kind
-    step_files (Sink draft) (Source source) steps kind of = absurd kind
     step_files (Sink draft) (Sink draft') steps kind of = tt
+    step_files files files' steps kind of = absurd kind
 
   -- a source that is kept gave nothing
   kept_files : (peer : Endpoint) (events : List SocketEvent) (store store' : S) (path path' : List ℕ) (replace : Bool)
@@ -287,25 +254,19 @@ module _ {S F D : Type 0} (meaning : StoreMeaning S D) (sources : SourceMeaning 
       → OfFiles peer events files → OfFiles peer events files'
   kept_files peer events store store' path path' replace (Source source) (Source source') keeps of =
       reads_on peer events source source' [] of keeps.gave
-  kept_files peer events store store' path path' replace (Source source) (Sink draft) keeps of = absurd keeps
-  kept_files peer events store store' path path' replace (Sink draft) (Source source) keeps of = absurd keeps
   kept_files peer events store store' path path' replace (Sink draft) (Sink draft') keeps of = tt
+  kept_files peer events store store' path path' replace files files' keeps of = absurd keeps
 
   worked_files : (peer : Endpoint) (events : List SocketEvent) (store store' : S) (files files' : Files F D)
       → FilesWork meaning sources store store' files files' → OfFiles peer events files → OfFiles peer events files'
   worked_files peer events store store' (Source source) (Source source') works of =
       reads_on peer events source source' [] of works.1.gave
-  worked_files peer events store store' (Source source) (Sink draft) works of = absurd works
-  worked_files peer events store store' (Sink draft) (Source source) works of = absurd works
   worked_files peer events store store' (Sink draft) (Sink draft') works of = tt
-
-  abbrev held_in : ServerState S F D → List (ℕ × TransferState F D)
-  held_in server = server.held
+  worked_files peer events store store' files files' works of = absurd works
 
   leaves_same : (before : List SocketEvent) (old new : ServerState S F D) (events : List SocketEvent) → new ≡ old
       → Leaves before old.held events → Leaves before new.held events
-  leaves_same before old new events is leaves =
-      subst (λ (held : List (ℕ × TransferState F D)). Leaves before held events) (sym (ap held_in is)) leaves
+  leaves_same before old new events is leaves = rw is leaves
 
   lost : (before : List SocketEvent) (port : ℕ) (o : Option (TransferState F D)) (old new : ServerState S F D)
       (events : List SocketEvent) → at port old.held ≡ o → KeepsHeld meaning sources port o old new
@@ -313,13 +274,9 @@ module _ {S F D : Type 0} (meaning : StoreMeaning S D) (sources : SourceMeaning 
   lost before port None old new events found keeps leaves = leaves_same before old new events keeps leaves
   lost before port (Some transfer) old new events found keeps leaves =
       let own = held_at (IsFor events) port old.held leaves.transfers found in
-      leaves_next before port old.held new.held events keeps.0 keeps.2 (record {
-        peer = own.peer;
-        at_peer = subst (λ (e : EndState). IsAt Fits (Asked own.peer events) own.peer e.position) (sym keeps.1.end) own.at_peer;
-        files = kept_files own.peer events old.store new.store transfer.path keeps.0.path old.config.overwrite
-            transfer.files keeps.0.files keeps.1.files own.files;
-        written = own.written;
-      }) leaves
+      leaves_next before port old.held new.held events transfer keeps.0 keeps.2 own (rw (keeps.1.end) own.at_peer)
+      (kept_files own.peer events old.store new.store transfer.path keeps.0.path old.config.overwrite
+      transfer.files keeps.0.files keeps.1.files own.files) leaves
 
   worked : (before : List SocketEvent) (port : ℕ) (o : Option (TransferState F D)) (old new : ServerState S F D)
       (events : List SocketEvent) → at port old.held ≡ o → WorksAt meaning sources port o old new
@@ -327,19 +284,13 @@ module _ {S F D : Type 0} (meaning : StoreMeaning S D) (sources : SourceMeaning 
   worked before port None old new events found works leaves = leaves_same before old new events works leaves
   worked before port (Some transfer) old new events found works leaves =
       let own = held_at (IsFor events) port old.held leaves.transfers found in
-      leaves_next before port old.held new.held events works.0 works.2 (record {
-        peer = own.peer;
-        at_peer = subst (λ (t : TransferState F D). IsAt Fits (Asked own.peer events) own.peer t.end.position)
-            (sym works.1.rest) own.at_peer;
-        files = worked_files own.peer events old.store new.store transfer.files works.0.files works.1.files own.files;
-        written = own.written;
-      }) leaves
+      leaves_next before port old.held new.held events transfer works.0 works.2 own (rw (works.1.rest) own.at_peer)
+      (worked_files own.peer events old.store new.store transfer.files works.0.files works.1.files own.files) leaves
 
   -- the newest datagram of an end went to this peer
   at_own : (peer : Endpoint) (events : List SocketEvent) (e : EndState) → IsAt Fits (Asked peer events) peer e.position
       → IsAt Fits (Asked peer events) e.position.last_sent_to e.position
-  at_own peer events e is =
-      subst (λ (p : Endpoint). IsAt Fits (Asked peer events) p e.position) (sym is.to) is
+  at_own peer events e is = subst (λ (p : Endpoint). IsAt Fits (Asked peer events) p e.position) (sym is.to) is
 
   module _ (before : List SocketEvent) (port : ℕ) (old new : ServerState S F D) (events : List SocketEvent)
       (leaves : Leaves before old.held events) where
@@ -351,24 +302,13 @@ module _ {S F D : Type 0} (meaning : StoreMeaning S D) (sources : SourceMeaning 
         → Leaves before new.held (answered port turn.reply events)
     answers transfer next from turn is end files held written (To_other same sends) =
         leaves_reply before new.held port from turn.reply events (no_block from events turn.reply sends) written
-        (leaves_next before port old.held new.held events next held (record {
-          peer = is.peer;
-          at_peer = subst (IsAt Fits (Asked is.peer events) is.peer)
-              (sym (ap (λ (e : EndState). e.position) end ∙ same)) is.at_peer;
-          files = files;
-          written = is.written;
-        }) leaves)
+        (leaves_next before port old.held new.held events transfer next held is (rw (end, same) is.at_peer) files leaves)
     answers transfer next from turn is end files held written (To_peer own done) =
         let peer : from ≡ is.peer = own ∙ is.at_peer.to in
         leaves_reply before new.held port is.peer turn.reply events
-        (subst (λ (p : Endpoint). SendsTo (Asked is.peer events) p turn.reply) peer done.sends) is.written
-        (leaves_next before port old.held new.held events next held (record {
-          peer = is.peer;
-          at_peer = subst (λ (e : EndState). IsAt Fits (Asked is.peer events) is.peer e.position) (sym end)
-              (subst (λ (p : Endpoint). IsAt Fits (Asked is.peer events) p turn.position) peer done.position);
-          files = files;
-          written = is.written;
-        }) leaves)
+        (rw peer at done.sends) is.written
+        (leaves_next before port old.held new.held events transfer next held is (rw end (rw peer at done.position)) files
+        leaves)
 
   -- the datagram that was just received
   has_written : (port : ℕ) (from : Endpoint) (bytes : List ℕ) (events : List SocketEvent)
@@ -389,8 +329,8 @@ module _ {S F D : Type 0} (meaning : StoreMeaning S D) (sources : SourceMeaning 
       let files = step_files d.from d.bytes takes.transfer.end step.turn own.peer es s.server.store t.server.store
       takes.transfer.path takes.next.path s.server.config.overwrite takes.transfer.files takes.next.files step.steps
       step.kind own.files in
-      let one = datagram_answers Fits (Asked own.peer es) sources drafts d.from d.bytes takes.transfer.end step.turn _ _
-      (at_own own.peer es takes.transfer.end own.at_peer) gives step.steps in
+      let one = datagram_answers Fits (Asked own.peer es) (at_own own.peer es takes.transfer.end own.at_peer) gives
+      step.steps in
       subst (Leaves before t.server.held) (sym d.handles.events)
       (answers before port s.server t.server es came takes.transfer takes.next d.from step.turn own step.carries.state
       files takes.held (has_written port d.from d.bytes s.events) one)
@@ -409,7 +349,7 @@ module _ {S F D : Type 0} (meaning : StoreMeaning S D) (sources : SourceMeaning 
       subst (Leaves before t.server.held) (sym d.times_out.events)
       (answers before port s.server t.server es came transfer (with_end times_out.end transfer)
       transfer.end.position.last_sent_to (timeout_turn transfer.end) own times_out.carries.state own.files times_out.held
-      (subst (λ (p : Endpoint). HasWritten p es) (sym own.at_peer.to) own.written)
+      (rw (own.at_peer.to) own.written)
       (To_peer refl (timeout_answers Fits (Asked own.peer es) transfer.end (at_own own.peer es transfer.end own.at_peer))))
   port_leaves before now s t (Work d) leaves =
       subst (Leaves before t.server.held) (sym d.events)
@@ -429,26 +369,11 @@ module _ {S F D : Type 0} (meaning : StoreMeaning S D) (sources : SourceMeaning 
   pending_later event events (Some pending) in_it =
       contains_later event (Received requests pending.0 pending.1) events in_it
 
-  answered_pending : (port : ℕ) (reply : Option Reply) (events : List SocketEvent)
-      (pending : Option (Endpoint × List ℕ)) → PendingIn events pending
-      → PendingIn (answered port reply events) pending
-  answered_pending port None events pending in_it = in_it
-  answered_pending port (Some reply) events pending in_it = pending_later _ events pending in_it
-
-  port_pending : (now : ℕ) (s t : PortState S F D) → PortStep meaning sources now s t
-      → (pending : Option (Endpoint × List ℕ)) → PendingIn s.events pending → PendingIn t.events pending
-  port_pending now s t (A_datagram d) pending in_it =
-      subst (λ (es : List SocketEvent). PendingIn es pending) (sym d.handles.events)
-      (answered_pending s.timer.port d.handles.takes.takes.turn.reply _ pending
-      (pending_later _ s.events pending in_it))
-  port_pending now s t (A_timeout d) pending in_it =
-      subst (λ (es : List SocketEvent). PendingIn es pending) (sym d.times_out.events)
-      (answered_pending s.timer.port (timeout_turn d.times_out.times_out.transfer.end).reply
-      (Elapsed s.timer.port now ∷ s.events) pending (pending_later (Elapsed s.timer.port now) s.events pending in_it))
-  port_pending now s t (Work d) pending in_it =
-      subst (λ (es : List SocketEvent). PendingIn es pending) (sym d.events) in_it
-  port_pending now s t does pending in_it =
-      subst (λ (es : List SocketEvent). PendingIn es pending) (sym (trace_is does)) (pending_later _ s.events pending in_it)
+  pending_added : (events later : List SocketEvent) → Adds events later → (pending : Option (Endpoint × List ℕ))
+      → PendingIn events pending → PendingIn later pending
+  pending_added events later adds None in_it = tt
+  pending_added events later adds (Some pending) in_it =
+      rw (adds.is) (contains_after (Received requests pending.0 pending.1) adds.more events in_it)
 
   record AreLeaving (before : List SocketEvent) (s : LoopState S F D) : Type 0 where
     requests_at : s.requests ≡ requests
@@ -466,32 +391,6 @@ module _ {S F D : Type 0} (meaning : StoreMeaning S D) (sources : SourceMeaning 
     pending = pending;
     leaves = leaves;
   }
-
-  -- an event that is no datagram sent, after which transfers and pending datagram are as before
-  next_event : (before : List SocketEvent) (s t : LoopState S F D) (event : SocketEvent)
-      → MayHappen (AskedFor sources root requests largest) event s.events → t.requests ≡ s.requests → t.server.config ≡ s.server.config → t.pending ≡ s.pending
-      → t.server.held ≡ s.server.held → t.events ≡ event ∷ s.events → AreLeaving before s → AreLeaving before t
-  next_event before s t event may same_port same_config_is same_pending same_held is are =
-      still are same_port same_config_is
-      (subst (PendingIn t.events) (sym same_pending)
-      (subst (λ (es : List SocketEvent). PendingIn es s.pending) (sym is)
-      (pending_later event s.events s.pending are.pending)))
-      (subst (λ (es : List SocketEvent). Leaves before t.server.held es) (sym is)
-      (subst (λ (held : List (ℕ × TransferState F D)). Leaves before held (event ∷ s.events)) (sym same_held)
-      (leaves_event before s.server.held event s.events may are.leaves)))
-
-  next_three : (before : List SocketEvent) (s t : LoopState S F D) (one two three : SocketEvent)
-      → MayHappen (AskedFor sources root requests largest) three s.events
-      → MayHappen (AskedFor sources root requests largest) two (three ∷ s.events)
-      → MayHappen (AskedFor sources root requests largest) one (two ∷ three ∷ s.events)
-      → t.requests ≡ s.requests → t.server.config ≡ s.server.config → t.pending ≡ s.pending → t.server.held ≡ s.server.held
-      → t.events ≡ one ∷ two ∷ three ∷ s.events → AreLeaving before s → AreLeaving before t
-  next_three before s t one two three third second first same_port same_config_is same_pending same_held is are =
-      let s' : LoopState S F D = record s { events = three ∷ s.events } in
-      let s'' : LoopState S F D = record s { events = two ∷ three ∷ s.events } in
-      next_event before s'' t one first same_port same_config_is same_pending same_held is
-      (next_event before s' s'' two second refl refl refl refl refl
-      (next_event before s s' three third refl refl refl refl refl are))
 
   module _ (old : ServerState S F D) (from : Endpoint) (bytes : List ℕ) (es : List SocketEvent)
       (received : Contains es (Received requests from bytes)) (root_is : meaning.root old.store ≡ root)
@@ -527,13 +426,11 @@ module _ {S F D : Type 0} (meaning : StoreMeaning S D) (sources : SourceMeaning 
           let fits : Fits (size agreed) = omega (arith, most, block_is) in
           let asked = reads_by old.config.limits old.config.cap (length old.held) repeated bytes decoded path mode options
           is in
-          let spells : Spells (Read asked.request) bytes =
-          subst (Decodes bytes) asked.packet says in
+          let spells : Spells (Read asked.request) bytes = rw (asked.packet) at says in
           let opens : sources.opens root path asked.request.mode file.length file.source =
-          subst (λ (m : Mode). sources.opens root path m file.length file.source) (sym asked.same_mode)
-          (subst (λ (r : List ℕ). sources.opens r path mode file.length file.source) root_is opened) in
+          rw (asked.same_mode) (rw root_is at opened) in
           let given = served_given agreed mode file.length old.config.retries file.source rest transfer.end serves in
-          let asks : Asks from es = record {
+          let asks : AsksOf from es = record {
             request = asked.request;
             bytes = bytes;
             spells = spells;
@@ -599,11 +496,15 @@ module _ {S F D : Type 0} (meaning : StoreMeaning S D) (sources : SourceMeaning 
   step_leaves : (before : List SocketEvent) (s t : LoopState S F D) → LoopStep meaning sources s t → AnswersWithinRequest
       → meaning.root s.server.store ≡ root → AreLeaving before s → AreLeaving before t
   step_leaves before s t (Waited d) within root_is are =
-      subst (AreLeaving before) (sym d.is) (next_three before s _ _ _ _ tt tt tt refl refl refl refl refl are)
+      subst (AreLeaving before) (sym d.is)
+      (still are refl refl (pending_added s.events _ (record { more = _ ∷ _ ∷ _ ∷ []; is = refl }) s.pending are.pending)
+      (leaves_event before s.server.held _ _ tt (leaves_event before s.server.held _ _ tt
+      (leaves_event before s.server.held _ s.events tt are.leaves))))
   step_leaves before s t (At_port d) within root_is are =
       subst (AreLeaving before) (sym d.is)
-      (still are refl (same_config meaning sources s.now (port_state s d.timer) d.next d.does)
-      (port_pending s.now (port_state s d.timer) d.next d.does s.pending are.pending)
+      (still are refl (same_config d.does)
+      (pending_added s.events d.next.events
+      (port_adds meaning sources s.now (port_state s d.timer) d.next d.does) s.pending are.pending)
       (port_leaves before s.now (port_state s d.timer) d.next d.does are.leaves))
   step_leaves before s t (Request_received d) within root_is are =
       subst (AreLeaving before) (sym d.is)
@@ -614,10 +515,9 @@ module _ {S F D : Type 0} (meaning : StoreMeaning S D) (sources : SourceMeaning 
   step_leaves before s t (Request_answered d) within root_is are =
       let received : Contains s.events (Received requests d.from d.bytes) =
       subst (PendingIn s.events) d.pending are.pending in
-      subst (AreLeaving before) (sym d.is)
-      (subst (λ (left : Left S F D). AreLeaving before (after_request s d.from left)) (sym d.steps.left)
+      subst (AreLeaving before) (sym (answer_is d))
       (by_came before s d.from d.bytes d.tid are received root_is within d.steps.repeated d.steps.decoded d.steps.says
-      d.steps.came (opens_for meaning sources s.server d.from d.bytes _ d.steps.came d.steps.goes)))
+      d.steps.came (opens_for meaning sources s.server d.from d.bytes _ d.steps.came d.steps.goes))
   step_leaves before s t (Request_lost d) within root_is are =
       subst (AreLeaving before) (sym d.is) (still are refl refl tt are.leaves)
   step_leaves before s t (Store_set d) within root_is are =
@@ -630,7 +530,9 @@ module _ {S F D : Type 0} (meaning : StoreMeaning S D) (sources : SourceMeaning 
         only = are.leaves.only;
       })))
   step_leaves before s t does within root_is are =
-      subst (AreLeaving before) (sym (state_is does)) (next_event before s _ _ tt refl refl refl refl refl are)
+      subst (AreLeaving before) (sym (state_is does))
+      (still are refl refl (pending_later _ s.events s.pending are.pending)
+      (leaves_event before s.server.held _ s.events tt are.leaves))
 
   leaves_along : (before : List SocketEvent) (s t : LoopState S F D) → AnswersWithinRequest
       → HasRoot meaning sources root s
@@ -639,21 +541,15 @@ module _ {S F D : Type 0} (meaning : StoreMeaning S D) (sources : SourceMeaning 
   leaves_along before s t within has are (Then {middle} run does) =
       step_leaves before middle t does within (has middle run) (leaves_along before s middle within has are run)
 
-module _ {S F D : Type 0} (meaning : StoreMeaning S D) (sources : SourceMeaning F) where
-  -- the law
-  pub sends_only_given : AnswersWithinRequest → (root : List ℕ) (start now : LoopState S F D) → start.server.held ≡ [] → start.pending ≡ None
-      → HasRoot meaning sources root start → Run (LoopStep meaning sources) start now
-      → LeavesOnly (AskedFor sources root start.requests (largest_block start.server.config)) start.events now.events
-  sends_only_given within root start now none idle has run =
-      let largest = largest_block start.server.config in
-      let first : AreLeaving meaning sources root start.requests largest start.events start = record {
-        requests_at = refl;
-        block = refl;
-        pending = subst (PendingIn meaning sources root start.requests largest start.events) (sym idle) tt;
-        leaves = record {
-          transfers = subst (AllFor meaning sources root start.requests largest start.events) (sym none)
-              (λ k d h. absurd (omega (arith, h)));
-          only = At_first;
-        };
-      } in
-      (leaves_along meaning sources root start.requests largest start.events start now within has first run).leaves.only
+-- the law
+pub sends_only_given : {S F D : Type 0} (meaning : StoreMeaning S D) (sources : SourceMeaning F)
+    → AnswersWithinRequest → SendsOnlyGiven meaning sources
+sends_only_given meaning sources within root start now none idle has run =
+    let largest = largest_block start.server.config in
+    let first : AreLeaving meaning sources root start.requests largest start.events start = record {
+      requests_at = refl;
+      block = refl;
+      pending = rw idle tt;
+      leaves = record { transfers = rw none (λ k d h. absurd (omega (arith, h))); only = At_first };
+    } in
+    (leaves_along meaning sources root start.requests largest start.events start now within has first run).leaves.only

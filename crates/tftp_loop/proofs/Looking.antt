@@ -1,24 +1,23 @@
 -- A port of a transfer that is not marked is drained, or is left for a while. For Sleeping.
 use Rattle.tftp_loop.proofs.Common.{arith, ◌≡◌, ◌≤◌, ◌<◌, ◌==◌, ◌||◌, ◌&&◌, ◌+◌, ◌⊎◌, not, ℕ, Bool, true, false, List}
-use Rattle.tftp_loop.proofs.Common.{◌∷◌, length, map, Option, Some, None, inl, inr, refl, sym, ap, subst, ◌∙◌}
-use Rattle.tftp_loop.proofs.Common.{slice_index_or, All, ◌≢◌, is_some, swap_remove, length-map, SourceMeaning, wait_of}
-use Rattle.tftp_loop.proofs.Common.{Backoff, Endpoint, StoreMeaning, TransferState, at, deadline_of, SocketEvent, Watch}
-use Rattle.tftp_loop.proofs.Common.{Elapsed, Watched, Quiet, is_among, is_drained, Timer, PortState, LoopState}
-use Rattle.tftp_loop.proofs.Common.{PortStep, LoopStep, interval_at, deadline_by, marked_by, port_state, restarted}
-use Rattle.tftp_loop.proofs.Common.{set_by, started, timeouts_after, timer_after, wait_in, with_timer, A_datagram}
-use Rattle.tftp_loop.proofs.Common.{Nothing_found, A_timeout, A_missed_timeout, Work, Waited, At_port, Request_received}
-use Rattle.tftp_loop.proofs.Common.{No_request_found, Request_not_received, Request_noted, Request_answered, Clock_read}
-use Rattle.tftp_loop.proofs.Common.{Transfer_closed, HavePortsApart}
+use Rattle.tftp_loop.proofs.Common.{◌∷◌, length, map, inl, inr, refl, sym, ap, subst, ◌∙◌, slice_index_or, All, ◌≢◌}
+use Rattle.tftp_loop.proofs.Common.{is_some, swap_remove, length-map, SourceMeaning, wait_of, StoreMeaning, deadline_of}
+use Rattle.tftp_loop.proofs.Common.{SocketEvent, Watch, Watched, Quiet, is_among, is_drained, Timer, PortState}
+use Rattle.tftp_loop.proofs.Common.{LoopState, PortStep, LoopStep, deadline_by, marked_by, port_state, restarted}
+use Rattle.tftp_loop.proofs.Common.{set_by, timeouts_after, timer_after, wait_in, A_datagram, Nothing_found, A_timeout}
+use Rattle.tftp_loop.proofs.Common.{A_missed_timeout, Work, Waited, At_port, Request_received, No_request_found}
+use Rattle.tftp_loop.proofs.Common.{Request_not_received, Request_noted, Request_answered, Clock_read, Transfer_closed}
+use Rattle.tftp_loop.proofs.Common.{HavePortsApart}
 use Rattle.std.specs.Prelude.{◌*◌}
 use Rattle.tftp_sockets.specs.Trace.QuietEvent.{Slept, Woke}
 use Rattle.tftp_loop.specs.Steps.{look_after, next_look}
 use Rattle.tftp_loop.proofs.BackoffLemmas.{wait_least, wait_most}
-use Rattle.tftp_loop.proofs.Drained.{answered_drained, either_drained, other_drained, port_drained, replied_drained}
-use Rattle.tftp_loop.proofs.LoopStays.{all_appended, other_port, removed_all, replaced_all}
+use Rattle.tftp_loop.proofs.Drained.{either_drained, other_drained, port_drained, replied_drained}
+use Rattle.tftp_loop.proofs.LoopStays.{all_opened, if_any, other_port, removed_all, replaced_all}
 use Rattle.tftp_loop.proofs.NoteLemmas.{note_drained}
 use Rattle.tftp_loop.proofs.PortStays.{or_left, or_right, own_receive}
 use Rattle.tftp_loop.proofs.Waits.{mapped_at}
-use Rattle.tftp_loop.proofs.NewStates.{state_is, timer_is}
+use Rattle.tftp_loop.proofs.NewStates.{same_noted, state_is, timer_is}
 
 -- the port is left for a while after an opening or progress: it is read again soon, and if that is at its deadline,
 -- the interval is as short
@@ -111,8 +110,7 @@ set_left now time true timer h l =
           omega (arith, e, soon, h, k, least);
     }
 set_left now time false timer h l =
-    let soon = l.soon in
-    record { soon = omega (arith, soon, h); short = λ e n k. l.short e n (omega (arith, h, k)) }
+    record { soon = omega (arith, l.soon, h); short = λ e n k. l.short e n (omega (arith, h, k)) }
 
 set_looked : (es : List SocketEvent) (now : ℕ) (watch : Watch) (timer : Timer) → now ≤ watch.now → IsLooked es now timer
     → IsLooked (Watched watch ∷ es) watch.now (set_by watch.now timer)
@@ -147,33 +145,18 @@ AreLooked s = All (IsLooked s.events s.now) s.timers
 module _ {S F D : Type 0} (meaning : StoreMeaning S D) (sources : SourceMeaning F) where
   at_own : (now : ℕ) (old new : PortState S F D) → PortStep meaning sources now old new
       → IsLooked old.events now old.timer → IsLooked new.events now new.timer
-  at_own now old new (A_datagram d) h = subst (IsLooked new.events now) (sym d.timer)
-      (after_datagram new.events now d.step.progress old.timer)
+  at_own now old new (A_datagram d) h = rw (d.timer) (after_datagram new.events now d.step.progress old.timer)
   at_own now old new (Nothing_found d) h =
-      subst (IsLooked new.events now) (sym d.timer)
-      (Drained (subst (λ (es : List SocketEvent). is_drained old.timer.port es ≡ true) (sym d.events)
-      (own_receive old.timer.port (is_drained old.timer.port old.events))))
+      rw (d.timer) (Drained (ap (is_drained old.timer.port) d.events
+      ∙ own_receive old.timer.port (is_drained old.timer.port old.events)))
   at_own now old new (A_timeout d) h =
-      let elapsed = Elapsed old.timer.port now ∷ old.events in
-      subst (IsLooked new.events now) (sym d.timer)
-      (after_timeout old.events new.events now (is_some d.step.to) old.timer d.looked
-      (λ k. subst (λ (es : List SocketEvent). is_drained old.timer.port es ≡ true) (sym d.times_out.events)
-      (answered_drained old.timer.port old.timer.port _ elapsed k)) h)
+      rw (d.timer) (after_timeout old.events new.events now (is_some d.step.to) old.timer d.looked
+      (λ k. same_noted (is_drained old.timer.port) (λ p t bs es. refl) (A_timeout d) ∙ k) h)
   at_own now old new (A_missed_timeout d) h =
-      subst (IsLooked new.events now) (sym d.timer)
-      (after_timeout old.events new.events now false old.timer d.looked
-      (λ k. subst (λ (es : List SocketEvent). is_drained old.timer.port es ≡ true) (sym d.events) k) h)
-  at_own now old new (Work d) h = subst (IsLooked new.events now) (sym d.timer)
-      (subst (λ (es : List SocketEvent). IsLooked es now old.timer) (sym d.events) h)
-  at_own now old new does h = subst (IsLooked new.events now) (sym (timer_is does)) (Marked refl)
-
-  with_looked : (es : List SocketEvent) (now : ℕ) (longest : Option ℕ) (backoff : Backoff) (from : Endpoint) (tid : Option ℕ) (held : List (ℕ × TransferState F D))
-      (timers : List Timer)
-      → All (IsLooked es now) timers → All (IsLooked es now) (with_timer now longest backoff from tid held timers)
-  with_looked es now longest backoff from None held timers h = h
-  with_looked es now longest backoff from (Some port) held timers h =
-      let timer = started now longest backoff port from (interval_at (at port held)) in
-      all_appended (IsLooked es now) timers timer h (Left (left_now now timer refl refl))
+      rw (d.timer) (after_timeout old.events new.events now false old.timer d.looked
+      (λ k. ap (is_drained old.timer.port) d.events ∙ k) h)
+  at_own now old new (Work d) h = rw (d.timer, d.events) h
+  at_own now old new does h = rw (timer_is does) (Marked refl)
 
   -- what comes at the request port drains no other and leaves each drained that was
   at_requests : (s : LoopState S F D) → All (λ (timer : Timer). timer.port ≢ s.requests) s.timers
@@ -221,9 +204,10 @@ module _ {S F D : Type 0} (meaning : StoreMeaning S D) (sources : SourceMeaning 
       (λ k e h was. note_drained _ (is_drained _ s.events) d.note ∙ was) looked)
   step_looked s t (Request_answered d) own apart looked =
       subst AreLooked (sym d.is)
-      (with_looked _ s.now s.longest s.backoff d.from d.left.opened.tid d.left.new.held s.timers
+      (all_opened (IsLooked _ s.now) s d.from d.left.opened.tid d.left.new.held
       (all_still s.events _ s.now s.timers
-      (λ k e h. replied_drained _ _ d.left.opened.to d.left.sent s.events) looked))
+      (λ k e h. replied_drained _ _ d.left.opened.to d.left.sent s.events) looked)
+      (if_any d.left.opened.tid (λ port. Left (left_now s.now _ refl refl))))
   step_looked s t (Transfer_closed d) own apart looked =
       subst AreLooked (sym d.is)
       (all_still s.events _ s.now (swap_remove s.timers d.index d.timer) (λ k e h was. was)

@@ -1,16 +1,15 @@
 -- What work keeps: each transfer has its own timer, and what was read stays so. For `ServerLoop::take_round` and ten
 -- other files.
-use Rattle.tftp_loop.proofs.Common.{arith, ◌≡◌, ◌<◌, ◌≤◌, ◌-◌, ◌==◌, ◌||◌, ◌⊎◌, ℕ, Bool, true, false, List, [], ◌∷◌}
-use Rattle.tftp_loop.proofs.Common.{◌++◌, length, Option, None, Some, IsSome, refl, sym, ap, subst, ◌∙◌, inl, inr}
-use Rattle.tftp_loop.proofs.Common.{slice_set, slice_index_or, is_some, All, swap_remove, cases_eq, SourceMeaning}
-use Rattle.tftp_loop.proofs.Common.{wait_of, Backoff, Endpoint, StoreMeaning, TransferState, ServerState, at, with_new}
-use Rattle.tftp_loop.proofs.Common.{without, Came, Left, Nothing, Error_reply, A_transfer, left_by, SocketEvent}
-use Rattle.tftp_loop.proofs.Common.{replied, Received, Quiet, Empty, Failed, was_tried, Run, Start, Then, Timer}
-use Rattle.tftp_loop.proofs.Common.{PortState, LoopState, LoopStep, answering_port, interval_at, port_state, started}
-use Rattle.tftp_loop.proofs.Common.{note_event, with_timer, Waited, At_port, Request_received, No_request_found}
-use Rattle.tftp_loop.proofs.Common.{Request_not_received, Request_noted, Request_answered, Request_lost, Clock_read}
-use Rattle.tftp_loop.proofs.Common.{Store_set, Transfer_closed, Drain_begun, reads_requests, Work_by, HavePortsApart}
-use Rattle.tftp_loop.proofs.Common.{AreKept, IsHeld, IsRead, KeepsTries}
+use Rattle.tftp_loop.proofs.Common.{arith, ◌≡◌, ◌<◌, ◌≤◌, ◌==◌, ◌||◌, ◌⊎◌, ℕ, Bool, true, false, List, [], ◌∷◌, ◌++◌, length}
+use Rattle.tftp_loop.proofs.Common.{Option, None, Some, IsSome, refl, sym, ap, subst, ◌∙◌, inl, inr, slice_set}
+use Rattle.tftp_loop.proofs.Common.{slice_index_or, is_some, All, swap_remove, cases_eq, SourceMeaning, wait_of}
+use Rattle.tftp_loop.proofs.Common.{Endpoint, StoreMeaning, TransferState, at, with_new, without, Came, A_transfer}
+use Rattle.tftp_loop.proofs.Common.{left_by, SocketEvent, replied, Received, Quiet, Empty, Failed, was_tried, Run}
+use Rattle.tftp_loop.proofs.Common.{Start, Then, Timer, PortState, LoopState, LoopStep, answering_port, interval_at}
+use Rattle.tftp_loop.proofs.Common.{port_state, started, note_event, with_timer, Waited, At_port, Request_received}
+use Rattle.tftp_loop.proofs.Common.{No_request_found, Request_not_received, Request_noted, Request_answered}
+use Rattle.tftp_loop.proofs.Common.{Request_lost, Clock_read, Store_set, Transfer_closed, Drain_begun, reads_requests}
+use Rattle.tftp_loop.proofs.Common.{Work_by, HavePortsApart, AreKept, IsHeld, IsRead, KeepsTries, IfSome, after_request, All-push}
 use Rattle.tftp_loop.specs.LoopStates.{IsWork, Works}
 use Rattle.tftp_loop.specs.MayWait.{AreTried}
 use Rattle.tftp_loop.proofs.ListLemmas.{set_long}
@@ -18,6 +17,7 @@ use Rattle.tftp_loop.proofs.NoteLemmas.{note_tried}
 use Rattle.tftp_loop.proofs.PortStays.{StaysAt, or_right, own_receive, looks_first, replied_tries, stays_at}
 use Rattle.tftp_loop.proofs.Tables.{set_other, set_own, appended_at, appended_last, appended_long, removed_long, was_at}
 use Rattle.tftp_loop.proofs.Tables.{any_default, inserted_apart, inserted_own, removed_apart}
+use Rattle.tftp_loop.proofs.NewStates.{answer_is}
 
 -- ---- the timers of a list that changed
 
@@ -57,13 +57,6 @@ pub other_port : (timers : List Timer) (i : ℕ) (timer : Timer) (k : ℕ) (d : 
 other_port timers i timer k d apart within is h other same =
     other (apart k i d timer h within (same ∙ ap (λ (t : Timer). t.port) is))
 
-which_same : (n a b j k i : ℕ) → j < n → k < n → ((j ≡ i) × (a ≡ n)) ⊎ ((j ≡ i → ⊥) × (a ≡ j)) →
-    ((k ≡ i) × (b ≡ n)) ⊎ ((k ≡ i → ⊥) × (b ≡ k)) → a ≡ b → j ≡ k
-which_same n a b j k i hj hk (inl x) (inl y) e = x.0 ∙ sym y.0
-which_same n a b j k i hj hk (inl x) (inr y) e = let f = x.1 in let g = y.1 in absurd (omega (arith, f, g, e, hk))
-which_same n a b j k i hj hk (inr x) (inl y) e = let f = x.1 in let g = y.1 in absurd (omega (arith, f, g, e, hj))
-which_same n a b j k i hj hk (inr x) (inr y) e = sym x.1 ∙ (e ∙ y.1)
-
 -- and if one is removed
 pub removed_apart_timers : (timers : List Timer) (i : ℕ) (timer : Timer) → i < length timers → HavePortsApart timers →
     HavePortsApart (swap_remove timers i timer)
@@ -73,43 +66,34 @@ removed_apart_timers timers i timer within apart j k d e hj hk h =
     let same : a.index ≡ b.index =
     apart a.index b.index d e a.within b.within (ap (λ (t : Timer). t.port) (sym (a.is d))
     ∙ (h ∙ ap (λ (t : Timer). t.port) (b.is e))) in
-    let long = removed_long timers i timer in
-    which_same (length timers - 1) a.index b.index j k i (omega (arith, long, hj)) (omega (arith, long, hk)) a.which
-    b.which same
+    omega (arith, removed_long timers i timer, hj, hk, a.which, b.which, same)
+
+appended_port : (timers : List Timer) (timer : Timer) (k : ℕ) (d : Timer) → k < length (timers ++ timer ∷ [])
+    → ((k < length timers) × (port_at (timers ++ timer ∷ []) k d ≡ port_at timers k d))
+    ⊎ ((k ≡ length timers) × (port_at (timers ++ timer ∷ []) k d ≡ timer.port))
+appended_port timers timer k d h = elim (cases_eq k (length timers)) [
+  | inl last ↦ inr (last, ap (λ (t : Timer). t.port) (appended_last timers timer k d last))
+  | inr before ↦
+      let within : k < length timers = omega (arith, appended_long timers timer, h, before) in
+      inl (within, ap (λ (t : Timer). t.port) (appended_at timers timer k d within))
+]
 
 -- and if one of a new port is added
 pub appended_apart : (timers : List Timer) (timer : Timer) →
     ((k : ℕ) (d : Timer) → k < length timers → port_at timers k d ≡ timer.port → ⊥) → HavePortsApart timers →
     HavePortsApart (timers ++ timer ∷ [])
-appended_apart timers timer fresh apart j k d e hj hk h =
-    let long = appended_long timers timer in
-    elim (cases_eq j (length timers)) [
-      | inl js ↦ elim (cases_eq k (length timers)) [
-        | inl ks ↦ js ∙ sym ks
-        | inr ko ↦
-            let hk' : k < length timers = omega (arith, long, hk, ko) in
-            absurd (fresh k e hk' (ap (λ (t : Timer). t.port) (sym (appended_at timers timer k e hk'))
-            ∙ (sym h ∙ ap (λ (t : Timer). t.port) (appended_last timers timer j d js))))
-      ]
-      | inr jo ↦
-          let hj' : j < length timers = omega (arith, long, hj, jo) in
-          elim (cases_eq k (length timers)) [
-            | inl ks ↦
-                absurd (fresh j d hj' (ap (λ (t : Timer). t.port) (sym (appended_at timers timer j d hj'))
-                ∙ (h ∙ ap (λ (t : Timer). t.port) (appended_last timers timer k e ks))))
-            | inr ko ↦
-                let hk' : k < length timers = omega (arith, long, hk, ko) in
-                apart j k d e hj' hk' (ap (λ (t : Timer). t.port) (sym (appended_at timers timer j d hj'))
-                ∙ (h ∙ ap (λ (t : Timer). t.port) (appended_at timers timer k e hk')))
-          ]
-    ]
+appended_apart timers timer fresh apart j k d e hj hk h = elim (appended_port timers timer j d hj) [
+  | inl a ↦ elim (appended_port timers timer k e hk) [
+    | inl b ↦ apart j k d e a.0 b.0 (sym a.1 ∙ (h ∙ b.1))
+    | inr b ↦ absurd (fresh j d a.0 (sym a.1 ∙ (h ∙ b.1)))
+  ]
+  | inr a ↦ elim (appended_port timers timer k e hk) [
+    | inl b ↦ absurd (fresh k e b.0 (sym b.1 ∙ (sym h ∙ a.1)))
+    | inr b ↦ a.0 ∙ sym b.0
+  ]
+]
 
 -- ---- what holds of each timer, after one was replaced, removed or added
-later : (low i k index n : ℕ) → i < n → low ≤ i → low ≤ k → ((k ≡ i) × (index ≡ n - 1)) ⊎ ((k ≡ i → ⊥) × (index ≡ k)) →
-    low ≤ index
-later low i k index n within first hl (inl x) = let e = x.1 in omega (arith, e, within, first)
-later low i k index n within first hl (inr x) = let e = x.1 in omega (arith, e, hl)
-
 -- an option that has a value is not empty
 pub some_none : {T : Type 0} (o : Option T) → IsSome o → o ≡ None → ⊥
 some_none o h e = let f : is_some o ≡ false = ap is_some e in (let g : true ≡ false = sym h ∙ f in cc)
@@ -137,8 +121,7 @@ module _ (Q : Timer → Type 0) (timers : List Timer) where
       Q (slice_index_or (swap_remove timers i timer) k d)
   all_removed low i timer first within rest k d hl h =
       let w = was_at timers i timer k d within h in
-      subst Q (sym (w.is d)) (rest w.index d (later low i k w.index (length timers) within first hl w.which) w.within
-      w.other)
+      subst Q (sym (w.is d)) (rest w.index d (omega (arith, within, first, hl, w.which)) w.within w.other)
 
   -- the same of all timers
   pub replaced_all : (i : ℕ) (next : Timer) → i < length timers →
@@ -153,18 +136,19 @@ module _ (Q : Timer → Type 0) (timers : List Timer) where
   removed_all i timer within rest k d h =
       all_removed 0 i timer (omega arith) within (λ k d l h apart. rest k d h apart) k d (omega arith) h
 
-  -- and of all with one more of which it holds
-  pub all_appended : (timer : Timer) → ((k : ℕ) (d : Timer) → k < length timers → Q (slice_index_or timers k d)) →
-      Q timer
-      → (k : ℕ) (d : Timer) → k < length (timers ++ timer ∷ []) → Q (slice_index_or (timers ++ timer ∷ []) k d)
-  all_appended timer rest own k d h =
-      let long = appended_long timers timer in
-      elim (cases_eq k (length timers)) [
-        | inl e ↦ subst Q (sym (appended_last timers timer k d e)) own
-        | inr apart ↦
-            let h' : k < length timers = omega (arith, long, h, apart) in
-            subst Q (sym (appended_at timers timer k d h')) (rest k d h')
-      ]
+-- what holds of each value holds of what an option has
+pub if_any : {A : Type 0} {P : A → Type 0} (o : Option A) → ((x : A) → P x) → IfSome o P
+if_any None holds = tt
+if_any (Some x) holds = holds x
+
+module _ {S F D : Type 0} where
+  -- what holds of all timers, and of the one that starts if a transfer opens, holds of all after a request
+  pub all_opened : (Q : Timer → Type 0) (s : LoopState S F D) (from : Endpoint) (opened : Option ℕ)
+      (held : List (ℕ × TransferState F D)) → All Q s.timers
+      → IfSome opened (λ port. Q (started s.now s.longest s.backoff port from (interval_at (at port held))))
+      → All Q (with_timer s.now s.longest s.backoff from opened held s.timers)
+  all_opened Q s from None held all own = all
+  all_opened Q s from (Some port) held all own = All-push Q s.timers _ all own
 
 module _ {S F D : Type 0} (meaning : StoreMeaning S D) (sources : SourceMeaning F) where
   -- what work keeps
@@ -221,8 +205,8 @@ module _ {S F D : Type 0} (meaning : StoreMeaning S D) (sources : SourceMeaning 
         (λ k d h apart.
         let t = slice_index_or timers k d in
         other_held held (without timer.port held) t
-        (λ some. ap is_some (removed_apart timer.port t.port held
-        (other_port timers index timer k d kept.apart within is h apart)) ∙ some)
+        (λ some. ap is_some (removed_apart timer.port t.port
+        (other_port timers index timer k d kept.apart within is h apart) held) ∙ some)
         (kept.each k d h));
   }
 
@@ -231,47 +215,31 @@ module _ {S F D : Type 0} (meaning : StoreMeaning S D) (sources : SourceMeaning 
       (transfer : TransferState F D) → at timer.port held ≡ None → timer.look_at ≤ timer.deadline
       → AreKept held timers → AreKept (with_new timer.port transfer held) (timers ++ timer ∷ [])
   opened_kept held timers timer transfer free look kept =
-      let H = IsHeld (with_new timer.port transfer held) in
       let fresh : (k : ℕ) (d : Timer) → k < length timers → port_at timers k d ≡ timer.port → ⊥ =
       λ k d h e. some_none (at (slice_index_or timers k d).port held) (kept.each k d h).there
       (ap (λ (p : ℕ). at p held) e ∙ free) in
       record {
         apart = appended_apart timers timer fresh kept.apart;
         each =
-            all_appended H timers timer
+            All-push (IsHeld (with_new timer.port transfer held)) timers timer
             (λ k d h.
             let t = slice_index_or timers k d in
             other_held held (with_new timer.port transfer held) t
-            (λ some. ap is_some (inserted_apart timer.port t.port transfer held (fresh k d h)) ∙ some)
+            (λ some. ap is_some (inserted_apart timer.port t.port (fresh k d h) transfer held) ∙ some)
             (kept.each k d h))
             (record { there = ap is_some (inserted_own timer.port transfer held); look = look });
       }
 
-  answered_kept : (now : ℕ) (longest : Option ℕ) (backoff : Backoff) (from : Endpoint) (tid : ℕ) (old : ServerState S F D) (timers : List Timer)
-      (came : Came S F D) → at tid old.held ≡ None → AreKept old.held timers
-      → AreKept (left_by came old from tid).new.held (with_timer now longest backoff from (left_by came old from tid).opened.tid
-      (left_by came old from tid).new.held timers)
-  answered_kept now longest backoff from tid old timers Nothing free kept = kept
-  answered_kept now longest backoff from tid old timers (Error_reply reply store) free kept = kept
-  answered_kept now longest backoff from tid old timers (A_transfer transfer store) free kept =
-      opened_kept old.held timers (started now longest backoff tid from (interval_at (at tid (with_new tid transfer old.held))))
-      transfer free
-      (looks_first now (wait_of backoff (interval_at (at tid (with_new tid transfer old.held))) 0)) kept
+  abbrev AreKeptIn : LoopState S F D → Type 0
+  AreKeptIn s = AreKept s.server.held s.timers
 
-  answered_read : (now : ℕ) (longest : Option ℕ) (backoff : Backoff) (from : Endpoint) (tid : ℕ) (old : ServerState S F D) (timers : List Timer)
-      (came : Came S F D) (es fs : List SocketEvent) → KeepsTries es fs
-      → All (IsRead es) timers →
-      All (IsRead fs) (with_timer now longest backoff from (left_by came old from tid).opened.tid
-      (left_by came old from tid).new.held timers)
-  answered_read now longest backoff from tid old timers Nothing es fs tries read =
-      λ k d h. other_read es fs (slice_index_or timers k d) tries (read k d h)
-  answered_read now longest backoff from tid old timers (Error_reply reply store) es fs tries read =
-      λ k d h. other_read es fs (slice_index_or timers k d) tries (read k d h)
-  answered_read now longest backoff from tid old timers (A_transfer transfer store) es fs tries read =
-      let R = IsRead fs in
-      all_appended R timers (started now longest backoff tid from (interval_at (at tid (with_new tid transfer old.held))))
-      (λ k d h. other_read es fs (slice_index_or timers k d) tries (read k d h))
-      (λ marked. absurd (let f : false ≡ true = marked in cc))
+  answered_kept : (s : LoopState S F D) (from : Endpoint) (tid : ℕ) (came : Came S F D) → at tid s.server.held ≡ None
+      → AreKeptIn s → AreKeptIn (after_request s from (left_by came s.server from tid))
+  answered_kept s from tid (A_transfer transfer store) free kept =
+      let interval = interval_at (at tid (with_new tid transfer s.server.held)) in
+      opened_kept s.server.held s.timers (started s.now s.longest s.backoff tid from interval) transfer free
+      (looks_first s.now (wait_of s.backoff interval 0)) kept
+  answered_kept s from tid came free kept = kept
 
   -- a request port whose datagram is handled
   still_tried : (marked pending : Bool) (P : Type 0) → ((marked || pending) ≡ true → P) → (marked || false) ≡ true → P
@@ -323,21 +291,16 @@ module _ {S F D : Type 0} (meaning : StoreMeaning S D) (sources : SourceMeaning 
       let fs = replied (answering_port s.requests d.left.opened.tid) d.left.opened.to d.left.sent s.events in
       let tries : KeepsTries s.events fs =
       replied_tries (answering_port s.requests d.left.opened.tid) d.left.opened.to d.left.sent s.events in
-      let L = left_by d.steps.came s.server d.from d.tid in
-      subst (Keeps s) (sym d.is) (record {
-        tries = tries;
-        kept = λ h.
-            subst (λ (left : Left S F D). AreKept left.new.held
-            (with_timer s.now s.longest s.backoff d.from left.opened.tid left.new.held s.timers)) (sym d.steps.left)
-            (answered_kept s.now s.longest s.backoff d.from d.tid s.server s.timers d.steps.came d.free h);
-        read = λ h.
-            subst (λ (left : Left S F D). All (IsRead fs)
-            (with_timer s.now s.longest s.backoff d.from left.opened.tid left.new.held s.timers)) (sym d.steps.left)
-            (answered_read s.now s.longest s.backoff d.from d.tid s.server s.timers d.steps.came s.events fs tries h);
-        tried =
-            λ h m. tries s.requests (still_tried (reads_requests s) (is_some s.pending) (was_tried s.requests s.events ≡ true) h
-            m);
-      })
+      record {
+        tries = rw (d.is) tries;
+        kept = λ h. subst AreKeptIn (sym (answer_is d)) (answered_kept s d.from d.tid d.steps.came d.free h);
+        read = λ h. subst (λ (u : LoopState S F D). All (IsRead u.events) u.timers) (sym d.is)
+            (all_opened (IsRead fs) s d.from d.left.opened.tid d.left.new.held
+            (λ k e l. other_read s.events fs (slice_index_or s.timers k e) tries (h k e l))
+            (if_any d.left.opened.tid (λ port marked. absurd (let f : false ≡ true = marked in cc))));
+        tried = λ h. subst AreTried (sym d.is) (λ m. tries s.requests
+            (still_tried (reads_requests s) (is_some s.pending) (was_tried s.requests s.events ≡ true) h m));
+      }
   step_keeps s t (Request_lost d) work =
       subst (Keeps s) (sym d.is) (record {
         tries = λ q h. h;

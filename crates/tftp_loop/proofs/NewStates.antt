@@ -5,7 +5,25 @@ use Rattle.tftp_loop.proofs.Common.{PortState, LoopState, PortStep, LoopStep, Wa
 use Rattle.tftp_loop.proofs.Common.{No_request_found, Request_not_received, Request_noted, Request_answered}
 use Rattle.tftp_loop.proofs.Common.{Request_lost, Clock_read, Store_set, Transfer_closed, Drain_begun, A_datagram}
 use Rattle.tftp_loop.proofs.Common.{A_lost_datagram, A_late_datagram, Nothing_found, A_failed_receive, A_timeout}
-use Rattle.tftp_loop.proofs.Common.{A_missed_timeout, Work}
+use Rattle.tftp_loop.proofs.Common.{A_missed_timeout, Work, ap, ◌∙◌, ◌∷◌, Option, Some, None, Endpoint, Reply, answered}
+use Rattle.tftp_loop.proofs.Common.{replied, Received, Elapsed, after_request, AnswersRequest, left_by}
+use Rattle.tftp_sockets.specs.Trace.SocketEvent.{Sent}
+
+-- what says nothing of the datagrams that were sent
+abbrev pub IgnoresSent : {X : Type 0} → (List SocketEvent → X) → Type 0
+IgnoresSent f =
+    (port : ℕ) (to : Endpoint) (bytes : List ℕ) (events : List SocketEvent) → f (Sent port to bytes ∷ events) ≡ f events
+
+-- says the same after an answer, whether there is one or not
+pub answered_same : {X : Type 0} (f : List SocketEvent → X) → IgnoresSent f → (port : ℕ) (reply : Option Reply)
+    (events : List SocketEvent) → f (answered port reply events) ≡ f events
+answered_same f ignores port None events = refl
+answered_same f ignores port (Some reply) events = ignores port reply.to reply.bytes events
+
+pub replied_same : {X : Type 0} (f : List SocketEvent → X) → IgnoresSent f → (port : ℕ) (to : Option Endpoint)
+    (bytes : List ℕ) (events : List SocketEvent) → f (replied port to bytes events) ≡ f events
+replied_same f ignores port None bytes events = refl
+replied_same f ignores port (Some to) bytes events = ignores port to bytes events
 
 module _ {S F D : Type 0} {meaning : StoreMeaning S D} {sources : SourceMeaning F} where
   module _ {old new : LoopState S F D} where
@@ -28,6 +46,16 @@ module _ {S F D : Type 0} {meaning : StoreMeaning S D} {sources : SourceMeaning 
     abbrev pub state_is : (does : LoopStep meaning sources old new) → new ≡ (new_state does).0
     state_is does = (new_state does).1
 
+    -- the request port stays
+    pub same_requests : LoopStep meaning sources old new → new.requests ≡ old.requests
+    same_requests (Waited d) = ap (λ (s : LoopState S F D). s.requests) d.is
+    same_requests does = ap (λ (s : LoopState S F D). s.requests) (state_is does)
+
+    -- after an answer it is what came of the request
+    pub answer_is : (d : AnswersRequest meaning sources old new)
+        → new ≡ after_request old d.from (left_by d.steps.came old.server d.from d.tid)
+    answer_is d = d.is ∙ ap (after_request old d.from) d.steps.left
+
   module _ {now : ℕ} {old new : PortState S F D} where
     -- the new trace, written as the old one with more
     abbrev pub new_trace : PortStep meaning sources now old new → (events : List SocketEvent) × (new.events ≡ events)
@@ -43,6 +71,21 @@ module _ {S F D : Type 0} {meaning : StoreMeaning S D} {sources : SourceMeaning 
     -- it is the new one
     abbrev pub trace_is : (does : PortStep meaning sources now old new) → new.events ≡ (new_trace does).0
     trace_is does = (new_trace does).1
+
+    -- the new trace before the answer of the step was sent
+    abbrev pub noted_by : PortStep meaning sources now old new → List SocketEvent
+    noted_by (A_datagram d) = Received old.timer.port d.from d.bytes ∷ old.events
+    noted_by (A_timeout d) = Elapsed old.timer.port now ∷ old.events
+    noted_by does = (new_trace does).0
+
+    -- what ignores that answer says the same of the new trace
+    pub same_noted : {X : Type 0} (f : List SocketEvent → X) → IgnoresSent f
+        → (does : PortStep meaning sources now old new) → f new.events ≡ f (noted_by does)
+    same_noted f ignores (A_datagram d) =
+        ap f d.handles.events ∙ answered_same f ignores old.timer.port d.handles.takes.takes.turn.reply _
+    same_noted f ignores (A_timeout d) =
+        ap f d.times_out.events ∙ answered_same f ignores old.timer.port _ (noted_by (A_timeout d))
+    same_noted f ignores does = ap f (trace_is does)
 
     -- the new timer, written as a change of the old one
     abbrev pub new_timer : PortStep meaning sources now old new → (timer : Timer) × (new.timer ≡ timer)

@@ -1,11 +1,11 @@
 -- How the end of a transfer opens.
--- For Reflecting and Leaving.
+-- For Bounded, Leaving, Opened and Reflecting.
 use Rattle.tftp_loop.proofs.Common.{arith, ◌≡◌, ◌≤◌, ◌*◌, ℕ, Bool, true, false, List, [], ◌∷◌, refl, sym, subst, inl}
 use Rattle.tftp_loop.proofs.Common.{inr, Result, Ok, Err, if◌then◌else◌, nat_lt, ⊤, Mode, RawOption, Known}
 use Rattle.tftp_loop.proofs.Common.{SourceMeaning, StoreFault, Source, Sink, EndState, ServesRead, serving_write}
 use Rattle.tftp_loop.proofs.Common.{block_length, Endpoint, ErrorReply, StoreMeaning, Opening, Ask, Ignores, Refuses}
 use Rattle.tftp_loop.proofs.Common.{Reads, Writes, Refused, Sends, Came, Goes, Nothing, Error_reply, A_transfer, Sent}
-use Rattle.tftp_loop.proofs.Common.{Taken, TransferState, ServerState, An_ack, A_block}
+use Rattle.tftp_loop.proofs.Common.{Taken, TransferState, ServerState, An_ack, A_block, is_some, outcome_of}
 use Rattle.std.specs.Prelude.{length}
 use Rattle.tftp_negotiate.specs.Agreed.{size}
 use Rattle.tftp_negotiate.specs.Answer.{answer}
@@ -19,14 +19,24 @@ use Rattle.tftp_server.specs.Port.{accept_reply, begin_reply}
 use Rattle.tftp_server.specs.Port.{by_draft, by_file, by_length, open_reply}
 use Rattle.tftp_server.specs.Request.{Starts, opened_length}
 use Rattle.tftp_loop.specs.Leaving.{An_oack}
-use Rattle.tftp_loop.proofs.AnsweringEnds.{IsAt, at_most}
+use Rattle.tftp_loop.proofs.AnsweringEnds.{IsAt}
+use Rattle.tftp_loop.proofs.EndSteps.{at_most}
 use Rattle.tftp_loop.proofs.PortEnds.{HasLimit}
 
--- an end that has all its retries is with the endpoint that asked, to which its first datagram goes
+-- whatever may be in its datagrams
+abbrev pub Any : List ℕ → Type 0
+Any piece = ⊤
+
+-- and however large its blocks are
+abbrev pub AnySize : ℕ → Type 0
+AnySize size = ⊤
+
+-- an open end that has all its retries is with the endpoint that asked, to which its first datagram goes
 pub record BeginsAt (Fits : ℕ → Type 0) (IsGiven : List ℕ → Type 0) (retries : ℕ) (peer : Endpoint) (e : EndState)
     : Type 0 where
   pub limit : HasLimit retries e
   pub at : IsAt Fits IsGiven peer e.position
+  pub still : is_some (outcome_of e.position.phase) ≡ false
 
 module _ (Fits : ℕ → Type 0) (IsGiven : List ℕ → Type 0) (retries : ℕ) (peer : Endpoint) where
   read_begins : (agreed : List Known) (mode : Mode) (length : ℕ) (piece : List ℕ) → Fits (size agreed)
@@ -35,10 +45,12 @@ module _ (Fits : ℕ → Type 0) (IsGiven : List ℕ → Type 0) (retries : ℕ)
   read_begins [] mode length piece fits given = record {
     limit = record { role = refl; left = omega arith };
     at = record { to = refl; with_peer = (refl, fits); said = A_block 1 piece refl (given refl) };
+    still = refl;
   }
   read_begins (known ∷ others) mode length piece fits given = record {
     limit = record { role = refl; left = omega arith };
     at = record { to = refl; with_peer = (refl, fits); said = An_oack (known ∷ others) refl };
+    still = refl;
   }
 
   -- the end of a write begins so
@@ -47,14 +59,13 @@ module _ (Fits : ℕ → Type 0) (IsGiven : List ℕ → Type 0) (retries : ℕ)
   write_begins [] mode = record {
     limit = record { role = refl; left = omega arith };
     at = record { to = refl; with_peer = refl; said = An_ack 0 refl };
+    still = refl;
   }
   write_begins (known ∷ others) mode = record {
     limit = record { role = refl; left = omega arith };
     at = record { to = refl; with_peer = refl; said = An_oack (known ∷ others) refl };
+    still = refl;
   }
-
-  no_other : (known : Known) (others : List Known) (P : Type 0) → known ∷ others ≡ [] → P
-  no_other known others P e = absurd (cc)
 
   -- the end of a read begins so
   pub serves_begins : {F : Type 0} (sources : SourceMeaning F) (agreed : List Known) (mode : Mode) (count : ℕ)
@@ -64,11 +75,9 @@ module _ (Fits : ℕ → Type 0) (IsGiven : List ℕ → Type 0) (retries : ℕ)
   serves_begins sources [] mode count source rest e fits given serves =
       let want = block_length count DEFAULT_BLOCK 1 in
       let long = at_most (sources.left source) (sources.left rest) want serves.0 (Ok want) serves.1.fills in
-      subst (BeginsAt Fits IsGiven retries peer) (sym serves.2)
-      (read_begins [] mode count serves.0 fits (λ none. given serves.0 serves.3 (omega (arith, long))))
+      rw (serves.2) (read_begins [] mode count serves.0 fits (λ none. given serves.0 serves.3 (omega (arith, long))))
   serves_begins sources (known ∷ others) mode count source rest e fits given serves =
-      subst (BeginsAt Fits IsGiven retries peer) (sym serves.1)
-      (read_begins (known ∷ others) mode count [] fits (no_other known others (IsGiven [])))
+      rw (serves.1) (read_begins (known ∷ others) mode count [] fits (λ none. absurd (cc)))
 
 -- a request opened this transfer: a read of a file that the store opened for it, or a write
 pub data OpensFor {S F D : Type 0} (meaning : StoreMeaning S D) (sources : SourceMeaning F) (old : ServerState S F D)
@@ -89,6 +98,15 @@ module _ {S F D : Type 0} (meaning : StoreMeaning S D) (sources : SourceMeaning 
   OpensIn ask Nothing = ⊤
   OpensIn ask (Error_reply reply store) = ⊤
   OpensIn ask (A_transfer transfer store) = OpensFor meaning sources old from bytes ask transfer
+
+  -- its end begins so
+  pub opens_begins : {ask : Ask} {transfer : TransferState F D} → OpensFor meaning sources old from bytes ask transfer
+      → BeginsAt AnySize Any old.config.retries from transfer.end
+  opens_begins {transfer = transfer} (To_read path mode options agreed file rest is opened same serves files) =
+      serves_begins AnySize Any old.config.retries from sources agreed mode file.length file.source rest transfer.end
+      tt (λ piece gave long. tt) serves
+  opens_begins (To_write agreed mode draft end files) =
+      rw end (write_begins AnySize Any old.config.retries from agreed mode)
 
   came_as : (ask : Ask) (came other : Came S F D) → came ≡ other → OpensIn ask other → OpensIn ask came
   came_as ask came other is h = subst (OpensIn ask) (sym is) h

@@ -1,12 +1,10 @@
 -- No transfer has the request port. For Handling and Sleeping.
-use Rattle.tftp_loop.proofs.Common.{arith, ◌≡◌, ℕ, List, [], Option, Some, None, refl, sym, subst, All, IfSome}
-use Rattle.tftp_loop.proofs.Common.{SourceMeaning, Backoff, Endpoint, TransferState, ServerState, at, StoreMeaning}
-use Rattle.tftp_loop.proofs.Common.{SocketEvent, Run, Start, Then, Timer, LoopState, LoopStep, at_start, interval_at}
-use Rattle.tftp_loop.proofs.Common.{port_state, started, with_timer, Waited, At_port, Request_answered, Transfer_closed}
-use Rattle.tftp_loop.proofs.Common.{LoopConfig}
+use Rattle.tftp_loop.proofs.Common.{arith, ◌≡◌, ℕ, [], sym, subst, All, SourceMeaning, StoreMeaning, Run, Start, Then}
+use Rattle.tftp_loop.proofs.Common.{Timer, LoopState, LoopStep, port_state, Waited, At_port, Request_answered}
+use Rattle.tftp_loop.proofs.Common.{Transfer_closed}
 use Rattle.std.proofs.Common.{◌≢◌}
 use Rattle.tftp_loop.proofs.RunLemmas.{onward}
-use Rattle.tftp_loop.proofs.LoopStays.{all_appended, removed_all, replaced_all}
+use Rattle.tftp_loop.proofs.LoopStays.{all_opened, removed_all, replaced_all}
 use Rattle.tftp_loop.proofs.PortStays.{stays_at}
 use Rattle.tftp_loop.proofs.Waits.{all_waited}
 use Rattle.tftp_loop.proofs.NewStates.{state_is}
@@ -26,14 +24,6 @@ module _ {S F D : Type 0} (meaning : StoreMeaning S D) (sources : SourceMeaning 
   abbrev AreOthers : LoopState S F D → Type 0
   AreOthers s = All (IsOther s.requests) s.timers
 
-  with_other : (requests now : ℕ) (longest : Option ℕ) (backoff : Backoff) (from : Endpoint) (opened : Option ℕ)
-      (held : List (ℕ × TransferState F D)) (timers : List Timer) → IfSome opened (λ port. port ≢ requests)
-      → All (IsOther requests) timers → All (IsOther requests) (with_timer now longest backoff from opened held timers)
-  with_other requests now longest backoff from None held timers own others = others
-  with_other requests now longest backoff from (Some port) held timers own others =
-      all_appended (IsOther requests) timers (started now longest backoff port from (interval_at (at port held)))
-      (λ k d h. others k d h) own
-
   step_others : (s t : LoopState S F D) → LoopStep meaning sources s t → AreOthers s → AreOthers t
   step_others s t (Waited d) others =
       subst AreOthers (sym d.is) (all_waited (IsOther s.requests) d.watch.now d.ports s.timers (λ k e h. others k e h))
@@ -45,26 +35,20 @@ module _ {S F D : Type 0} (meaning : StoreMeaning S D) (sources : SourceMeaning 
       (subst (IsOther s.requests) (sym d.is_timer) (others d.index d.timer d.within))))
   step_others s t (Request_answered d) others =
       subst AreOthers (sym d.is)
-      (with_other s.requests s.now s.longest s.backoff d.from d.left.opened.tid d.left.new.held s.timers d.own others)
+      (all_opened (IsOther s.requests) s d.from d.left.opened.tid d.left.new.held others d.own)
   step_others s t (Transfer_closed d) others =
       subst AreOthers (sym d.is)
       (removed_all (IsOther s.requests) s.timers d.index d.timer d.within (λ k e h apart. others k e h))
   step_others s t does others = subst AreOthers (sym (state_is does)) others
 
-  others_along : (start now : LoopState S F D) → start.timers ≡ [] → Run (LoopStep meaning sources) start now
+  pub others_along : (start now : LoopState S F D) → start.timers ≡ [] → Run (LoopStep meaning sources) start now
       → AreOthers now
   others_along start now none Start =
       subst (All (IsOther start.requests)) (sym none) (λ k d h. absurd (omega (arith, h)))
   others_along start now none (Then {middle} run does) =
       step_others middle now does (others_along start middle none run)
 
-  -- so it is in each run of a server
-  pub has_its_own_port : (config : LoopConfig) (port reading : ℕ) (server : ServerState S F D) (before : List SocketEvent)
-      (last : LoopState S F D) → HasItsOwnPort (at_start config port server reading before) last
-  has_its_own_port config port reading server before last now begins ends =
-      others_along (at_start config port server reading before) now refl begins
-
-  -- and from any of its times on
+  -- so it is at each time of a run, and from any time on
   pub own_from : (start first last : LoopState S F D) → start.timers ≡ [] → Run (LoopStep meaning sources) start first
       → HasItsOwnPort first last
   own_from start first last none before now begins ends =

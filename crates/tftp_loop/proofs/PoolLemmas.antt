@@ -40,10 +40,9 @@ order_within range order is =
     let long = length_permutation (ports_of range) (coming order) is.all in
     let some = pushed_some (range_with_len range.first (range.last - range.first)) range.last in
     record {
-      all = subst (λ (r : PortRange). IsPermutation (ports_of r) (coming order)) (sym is.same) is.all;
+      all = rw (is.same) is.all;
       some = omega (arith, long, some);
-      each =
-          subst (λ (r : PortRange). All (IsOneOf (Some r)) (coming order)) (sym is.same)
+      each = rw (is.same)
           (All-permutation (IsOneOf (Some range)) (ports_of range) (coming order) is.all (all_within range));
     }
 
@@ -63,11 +62,9 @@ module _ (old new : PortOrder) (port : ℕ) (has : HasPorts old) (uses : UsesNex
         subst (λ (xs : List ℕ). IsPermutation (ports_of old.range) xs) uses.was has.all in
         let moved = IsPermutation-trans (ports_of old.range) (port ∷ uses.others) (uses.others ++ port ∷ []) was
         (IsPermutation-append_comm (port ∷ []) uses.others) in
-        subst (λ (r : PortRange). IsPermutation (ports_of r) (coming new)) (sym uses.range)
-        (subst (λ (xs : List ℕ). IsPermutation (ports_of old.range) xs) (sym uses.is) moved);
-    some = subst (λ (xs : List ℕ). 1 ≤ length xs) (sym uses.is) (pushed_some uses.others port);
-    each =
-        subst (λ (r : PortRange). All (IsOneOf (Some r)) (coming new)) (sym uses.range)
+        rw (uses.range, uses.is) moved;
+    some = rw (uses.is) (pushed_some uses.others port);
+    each = rw (uses.range)
         (All-same (IsOneOf (Some old.range)) (coming new) (uses.others ++ port ∷ []) uses.is
         (All-push (IsOneOf (Some old.range)) uses.others port
         (All-tail (IsOneOf (Some old.range)) port uses.others comes) used_within));
@@ -77,22 +74,21 @@ module _ (old new : PortOrder) (port : ℕ) (has : HasPorts old) (uses : UsesNex
 pub mixed_within : (among : ℕ) (old new : PortOrder) → HasPorts old → Mixes among old new → HasPorts new
 mixed_within among old new has mixes =
     let long = length_permutation (coming old) (coming new) mixes.all in
-    let some = has.some in
     record {
-      all =
-          subst (λ (r : PortRange). IsPermutation (ports_of r) (coming new)) (sym mixes.range)
+      all = rw (mixes.range)
           (IsPermutation-trans (ports_of old.range) (coming old) (coming new) has.all mixes.all);
-      some = omega (arith, long, some);
-      each =
-          subst (λ (r : PortRange). All (IsOneOf (Some r)) (coming new)) (sym mixes.range)
+      some = omega (arith, long, has.some);
+      each = rw (mixes.range)
           (All-permutation (IsOneOf (Some old.range)) (coming old) (coming new) mixes.all has.each);
     }
 
 -- a port that is drawn from few of those that come, and used
-pub draws_few : (old new : PortOrder) (among port : ℕ) → (mixed : PortOrder) × Mixes among old mixed × UsesNext mixed new port →
-    among ≤ drawn_from old.range → DrawsNext old new port
-draws_few old new among port draws few =
-    record { among = among; few = few; mixed = draws.0; mixes = draws.1; uses = draws.2 }
+pub draws_few : {range : PortRange} (old new : PortOrder) (among port half : ℕ)
+    → (mixed : PortOrder) × Mixes among old mixed × UsesNext mixed new port → half ≡ drawn_from range
+    → old.range ≡ range → among ≤ half → DrawsNext old new port
+draws_few old new among port half draws is same few =
+    let from = ap drawn_from same in
+    record { among = among; few = omega (arith, few, is, from); mixed = draws.0; mixes = draws.1; uses = draws.2 }
 
 -- the same, whether or not a port comes
 abbrev MayUseNext : PortOrder → PortOrder → Option ℕ → Type 0
@@ -105,7 +101,7 @@ same_range old new (Some port) uses = uses.range
 
 -- and the order has its ports still
 pub still_within : (old new : PortOrder) (made : Option ℕ) → HasPorts old → MayUseNext old new made → HasPorts new
-still_within old new None has uses = subst (λ (o : PortOrder). HasPorts o) (sym uses.1) has
+still_within old new None has uses = rw (uses.1) has
 still_within old new (Some port) has uses = next_has_ports old new port has uses
 
 -- the next port is one of the range
@@ -122,9 +118,8 @@ next_uses old new (Some port) uses = uses
 -- a port comes
 pub next_some : (old new : PortOrder) (made : Option ℕ) → HasPorts old → MayUseNext old new made → IsSome made
 next_some old new None has uses =
-    let some = has.some in
     let none : length (coming old) ≡ 0 = ap (λ (xs : List ℕ). length xs) uses.0 in
-    absurd (omega (arith, some, none))
+    absurd (omega (arith, has.some, none))
 next_some old new (Some port) has uses = refl
 
 -- ---- what the trace says of ports that were tried

@@ -1,20 +1,19 @@
 -- What a step at a port does to the end of its transfer, and to the timer. For `ServerLoop::visit` and seven other
 -- files.
-use Rattle.tftp_loop.proofs.Common.{arith, ◌≡◌, ◌≤◌, ◌+◌, ◌*◌, ℕ, Bool, true, false, not, List, Option, Some, refl, sym}
-use Rattle.tftp_loop.proofs.Common.{ap, subst, ◌∙◌, inl, inr, ⊤, is_some, cases_eq, is_at, nat_cmp, same_Some}
-use Rattle.tftp_loop.proofs.Common.{SourceMeaning, wait_of, EndState, is_progress, after_turn, timeout_turn, Step}
-use Rattle.tftp_loop.proofs.Common.{StoreMeaning, drafting_sink, TransferState, ServerState, at, is_closed, with_next}
-use Rattle.tftp_loop.proofs.Common.{KeepsHeld, with_end, WorksAt, deadline_of, Run, Start, Then, IsTimed, Timer}
-use Rattle.tftp_loop.proofs.Common.{PortState, PortStep, deadline_by, restarted, timeouts_after, timer_after, wait_in}
-use Rattle.tftp_loop.proofs.Common.{A_datagram, A_lost_datagram, A_timeout, A_missed_timeout, Work, IsIdleAt}
-use Rattle.tftp_loop.proofs.Common.{ReceivesNoneAt}
+use Rattle.tftp_loop.proofs.Common.{arith, ◌≡◌, ◌≤◌, ◌+◌, ◌*◌, ℕ, Bool, true, false, not, Option, Some, refl, sym, ap}
+use Rattle.tftp_loop.proofs.Common.{subst, ◌∙◌, inl, inr, ⊤, is_some, cases_eq, same_Some, SourceMeaning, wait_of}
+use Rattle.tftp_loop.proofs.Common.{EndState, is_progress, after_turn, timeout_turn, Step, StoreMeaning, TransferState}
+use Rattle.tftp_loop.proofs.Common.{ServerState, at, is_closed, KeepsHeld, with_end, WorksAt, deadline_of, Run, Start}
+use Rattle.tftp_loop.proofs.Common.{Then, IsTimed, Timer, PortState, PortStep, deadline_by, restarted, timeouts_after}
+use Rattle.tftp_loop.proofs.Common.{timer_after, wait_in, A_datagram, A_lost_datagram, A_timeout, A_missed_timeout}
+use Rattle.tftp_loop.proofs.Common.{Work, IsIdleAt, ReceivesNoneAt}
 use Rattle.std.specs.Prelude.{max}
 use Rattle.tftp_ends.specs.declared.role.Role.{Role}
 use Rattle.tftp_server.specs.State.{is_open}
 use Rattle.tftp_loop.specs.Steps.{expiring}
 use Rattle.tftp_loop.proofs.EndSteps.{Moves, closed_left, datagram_left, datagram_moves, most_left, moves_limit}
 use Rattle.tftp_loop.proofs.EndSteps.{open_left, timeout_spends, timeouts_left}
-use Rattle.tftp_loop.proofs.PortLemmas.{set_found}
+use Rattle.tftp_loop.proofs.Tables.{next_found}
 use Rattle.tftp_loop.proofs.NewStates.{timer_is, server_is}
 
 -- an end handled a datagram, with or without progress
@@ -43,9 +42,6 @@ pub record SameTimer (timer timer' : Timer) : Type 0 where
   pub backoff : timer'.backoff ≡ timer.backoff
   pub age : timer'.age_limit ≡ timer.age_limit
 
-same_by : (timer timer' after : Timer) → timer' ≡ after → SameTimer timer after → SameTimer timer timer'
-same_by timer timer' after e same = subst (SameTimer timer) (sym e) same
-
 after_same : (now : ℕ) (progress : Bool) (timer : Timer) → SameTimer timer (timer_after now progress timer)
 after_same now true timer = record { port = refl; peer = refl; interval = refl; backoff = refl; age = refl }
 after_same now false timer = record { port = refl; peer = refl; interval = refl; backoff = refl; age = refl }
@@ -53,9 +49,6 @@ after_same now false timer = record { port = refl; peer = refl; interval = refl;
 -- the deadline is a wait away at most
 abbrev pub IsNear : ℕ → Timer → Type 0
 IsNear now timer = timer.deadline ≤ now + wait_in timer * 1000
-
-near_by : (now : ℕ) (timer timer' : Timer) → timer' ≡ timer → IsNear now timer → IsNear now timer'
-near_by now timer timer' e near = subst (IsNear now) (sym e) near
 
 after_near : (now : ℕ) (progress : Bool) (timer : Timer) → IsNear now timer
     → IsNear now (timer_after now progress timer)
@@ -82,45 +75,19 @@ expiring_near now timeouts timer =
 pub restarted_timed : (now : ℕ) (again : Bool) (timer : Timer) → IsTimed now (restarted now again timer)
 restarted_timed now again timer = record { due = inr refl; look = inr (inl refl) }
 
--- a step leaves it a wait away at most
-pub changes_near : (Idle Silent : Type 0) (now : ℕ) (timer timer' : Timer) (e e' : EndState)
-    → Changes Idle Silent now timer timer' e e' → IsNear now timer → IsNear now timer'
-changes_near Idle Silent now timer timer' e e' (By_datagram progress handled idle silent is) near =
-    near_by now (timer_after now progress timer) timer' is (after_near now progress timer near)
-changes_near Idle Silent now timer timer' e e' (By_timeout again some end is) near =
-    near_by now (restarted now again timer) timer' is (expiring_near now (timeouts_after again timer.timeouts) timer)
-changes_near Idle Silent now timer timer' e e' (By_late_timeout end none is) near =
-    near_by now (restarted now false timer) timer' is (expiring_near now timer.timeouts timer)
-changes_near Idle Silent now timer timer' e e' (By_nothing end deadline wait timeouts provisional) near =
-    let same : wait_in timer' * 1000 ≡ wait_in timer * 1000 = ap (λ (i : ℕ). i * 1000) wait in
-    omega (arith, near, deadline, same)
-
 -- ---- retries
 -- an end has this limit of retries, and no more left
 pub record HasLimit (retries : ℕ) (e : EndState) : Type 0 where
   pub role : e.role.retries ≡ retries
   pub left : e.position.retries_left ≤ retries
 
-limit_moves : (retries : ℕ) (e e' : EndState) → e'.role ≡ e.role → Moves e e'.position → HasLimit retries e
+-- a step leaves it
+pub limit_moves : (retries : ℕ) (e e' : EndState) → e'.role ≡ e.role → Moves e e'.position → HasLimit retries e
     → HasLimit retries e'
 limit_moves retries e e' role moves limit =
     let own = limit.role in
-    let less = limit.left in
-    let fewer = moves_limit e e'.position moves (omega (arith, own, less)) in
+    let fewer = moves_limit e e'.position moves (omega (arith, own, limit.left)) in
     record { role = ap (λ (r : Role). r.retries) role ∙ own; left = omega (arith, fewer, own) }
-
--- a step leaves the limit of retries
-pub changes_limit : (Idle Silent : Type 0) (now : ℕ) (timer timer' : Timer) (e e' : EndState)
-    → Changes Idle Silent now timer timer' e e' → (retries : ℕ) → HasLimit retries e → HasLimit retries e'
-changes_limit Idle Silent now timer timer' e e' (By_datagram progress handled idle silent is) retries limit =
-    limit_moves retries e e' handled.role handled.moves limit
-changes_limit Idle Silent now timer timer' e e' (By_timeout again some end is) retries limit =
-    subst (HasLimit retries) (sym end) (limit_moves retries e (after_turn e (timeout_turn e)) refl
-    (timeout_spends e).moves limit)
-changes_limit Idle Silent now timer timer' e e' (By_late_timeout end none is) retries limit =
-    subst (HasLimit retries) (sym end) limit
-changes_limit Idle Silent now timer timer' e e' (By_nothing end deadline wait timeouts provisional) retries limit =
-    subst (HasLimit retries) (sym end) limit
 
 -- as many timeouts are over and left as there are retries, and one more, at most
 abbrev pub HasSpent : ℕ → Timer → EndState → Type 0
@@ -130,68 +97,80 @@ pub spent_after : (again : Bool) (timeouts : ℕ) → timeouts_after again timeo
 spent_after true timeouts = omega arith
 spent_after false timeouts = omega arith
 
--- a step leaves no more of both
-pub changes_spent : (Idle Silent : Type 0) (now : ℕ) (timer timer' : Timer) (e e' : EndState)
-    → Changes Idle Silent now timer timer' e e' → (retries : ℕ) → HasLimit retries e' → HasSpent retries timer e
-    → HasSpent retries timer' e'
-changes_spent Idle Silent now timer timer' e e' (By_datagram true handled idle silent is) retries limit spent =
-    let none : timer'.timeouts ≡ 0 = ap (λ (t : Timer). t.timeouts) is in
-    let most = most_left e'.position.phase e'.position.retries_left retries limit.left in
-    omega (arith, none, most)
-changes_spent Idle Silent now timer timer' e e' (By_datagram false handled idle silent is) retries limit spent =
-    let same : timer'.timeouts ≡ timer.timeouts = ap (λ (t : Timer). t.timeouts) is in
-    let fewer = handled.left refl in
-    omega (arith, same, fewer, spent)
-changes_spent Idle Silent now timer timer' e e' (By_timeout again some end is) retries limit spent =
-    let same : timer'.timeouts ≡ timeouts_after again timer.timeouts = ap (λ (t : Timer). t.timeouts) is in
-    let more = spent_after again timer.timeouts in
-    let left : timeouts_left e' ≡ timeouts_left (after_turn e (timeout_turn e)) =
-    ap (λ (f : EndState). timeouts_left f) end in
-    elim (cases_eq (timeouts_left e') 0) [
-      | inl none ↦ omega (arith, same, more, some, none, spent)
-      | inr other ↦
-          let spends : timeouts_left (after_turn e (timeout_turn e)) + 1 ≤ timeouts_left e =
-          (timeout_spends e).left (omega (arith, other, left)) in
-          omega (arith, same, more, left, spends, spent)
-    ]
-changes_spent Idle Silent now timer timer' e e' (By_late_timeout end none is) retries limit spent =
-    let same : timer'.timeouts ≡ timer.timeouts = ap (λ (t : Timer). t.timeouts) is in
-    let left : timeouts_left e' ≡ timeouts_left e = ap (λ (f : EndState). timeouts_left f) end in
-    omega (arith, same, left, spent)
-changes_spent Idle Silent now timer timer' e e' (By_nothing end deadline wait timeouts provisional) retries limit spent =
-    let left : timeouts_left e' ≡ timeouts_left e = ap (λ (f : EndState). timeouts_left f) end in
-    omega (arith, timeouts, left, spent)
+module _ {Idle Silent : Type 0} {now : ℕ} {timer timer' : Timer} {e e' : EndState} where
+  -- a step leaves the deadline a wait away at most
+  pub changes_near : Changes Idle Silent now timer timer' e e' → IsNear now timer → IsNear now timer'
+  changes_near (By_datagram progress handled idle silent is) near = rw is (after_near now progress timer near)
+  changes_near (By_timeout again some end is) near =
+      rw is (expiring_near now (timeouts_after again timer.timeouts) timer)
+  changes_near (By_late_timeout end none is) near = rw is (expiring_near now timer.timeouts timer)
+  changes_near (By_nothing end deadline wait timeouts provisional) near =
+      omega (arith, near, deadline, ap (λ (i : ℕ). i * 1000) wait)
+
+  -- the limit of retries
+  pub changes_limit : Changes Idle Silent now timer timer' e e' → (retries : ℕ) → HasLimit retries e
+      → HasLimit retries e'
+  changes_limit (By_datagram progress handled idle silent is) retries limit =
+      limit_moves retries e e' handled.role handled.moves limit
+  changes_limit (By_timeout again some end is) retries limit =
+      rw end (limit_moves retries e (after_turn e (timeout_turn e)) refl (timeout_spends e).moves limit)
+  changes_limit (By_late_timeout end none is) retries limit = rw end limit
+  changes_limit (By_nothing end deadline wait timeouts provisional) retries limit = rw end limit
+
+  -- and no more timeouts, those that are over and those that are left
+  pub changes_spent : Changes Idle Silent now timer timer' e e' → (retries : ℕ) → HasLimit retries e'
+      → HasSpent retries timer e → HasSpent retries timer' e'
+  changes_spent (By_datagram true handled idle silent is) retries limit spent =
+      omega (
+        arith,
+        ap (λ (t : Timer). t.timeouts) is,
+        most_left e'.position.phase e'.position.retries_left retries limit.left,
+      )
+  changes_spent (By_datagram false handled idle silent is) retries limit spent =
+      omega (arith, ap (λ (t : Timer). t.timeouts) is, handled.left refl, spent)
+  changes_spent (By_timeout again some end is) retries limit spent =
+      let same : timer'.timeouts ≡ timeouts_after again timer.timeouts = ap (λ (t : Timer). t.timeouts) is in
+      let more = spent_after again timer.timeouts in
+      let left : timeouts_left e' ≡ timeouts_left (after_turn e (timeout_turn e)) = ap timeouts_left end in
+      elim (cases_eq (timeouts_left e') 0) [
+        | inl none ↦ omega (arith, same, more, some, none, spent)
+        | inr other ↦
+            let spends : timeouts_left (after_turn e (timeout_turn e)) + 1 ≤ timeouts_left e =
+            (timeout_spends e).left (omega (arith, other, left)) in
+            omega (arith, same, more, left, spends, spent)
+      ]
+  changes_spent (By_late_timeout end none is) retries limit spent =
+      omega (arith, ap (λ (t : Timer). t.timeouts) is, ap timeouts_left end, spent)
+  changes_spent (By_nothing end deadline wait timeouts provisional) retries limit spent =
+      omega (arith, timeouts, ap timeouts_left end, spent)
 
 closed_by : (b : Bool) → not b ≡ false → b ≡ true
 closed_by true h = refl
 closed_by false h = absurd (let e : true ≡ false = h in cc)
 
 -- ---- at the port
+module _ {S F D : Type 0} {meaning : StoreMeaning S D} {sources : SourceMeaning F} {now : ℕ} {old new : PortState S F D}
+  where
+    -- a step at a port leaves port, interval and age limit of its timer
+    pub same_timer : PortStep meaning sources now old new → SameTimer old.timer new.timer
+    same_timer (A_datagram d) = rw (d.timer) (after_same now d.step.progress old.timer)
+    same_timer does =
+        rw (timer_is does) (record { port = refl; peer = refl; interval = refl; backoff = refl; age = refl })
+
+    -- the configuration never changes
+    pub same_config : PortStep meaning sources now old new → new.server.config ≡ old.server.config
+    same_config (A_datagram d) = d.handles.config
+    same_config (A_lost_datagram d) = d.loses.config
+    same_config (A_timeout d) = ap (λ (s : ServerState S F D). s.config) d.times_out.rest
+    same_config (Work d) = d.works.config
+    same_config does = ap (λ (s : ServerState S F D). s.config) (server_is does)
+
 module _ {S F D : Type 0} (meaning : StoreMeaning S D) (sources : SourceMeaning F) where
-  -- a step at a port leaves port, interval and age limit of its timer
-  pub same_timer : (now : ℕ) (old new : PortState S F D) → PortStep meaning sources now old new
-      → SameTimer old.timer new.timer
-  same_timer now old new (A_datagram d) = same_by old.timer new.timer
-      (timer_after now d.step.progress old.timer) d.timer (after_same now d.step.progress old.timer)
-  same_timer now old new does =
-      same_by old.timer new.timer _ (timer_is does)
-      (record { port = refl; peer = refl; interval = refl; backoff = refl; age = refl })
-
-  -- the configuration never changes
-  pub same_config : (now : ℕ) (old new : PortState S F D) → PortStep meaning sources now old new
-      → new.server.config ≡ old.server.config
-  same_config now old new (A_datagram d) = d.handles.config
-  same_config now old new (A_lost_datagram d) = d.loses.config
-  same_config now old new (A_timeout d) = ap (λ (s : ServerState S F D). s.config) d.times_out.rest
-  same_config now old new (Work d) = d.works.config
-  same_config now old new does = ap (λ (s : ServerState S F D). s.config) (server_is does)
-
   -- a run at a port leaves the configuration of the server
   pub config_along : (now : ℕ) (old new : PortState S F D) → Run (PortStep meaning sources now) old new
       → new.server.config ≡ old.server.config
   config_along now old new Start = refl
-  config_along now old new (Then {middle} run does) =
-      same_config now middle new does ∙ config_along now old middle run
+  config_along now old new (Then {middle} run does) = same_config does ∙ config_along now old middle run
 
   -- the transfer is held still, and its end changed so
   pub record AtTransfer (Idle Silent : Type 0) (now : ℕ) (old new : PortState S F D)
@@ -200,15 +179,6 @@ module _ {S F D : Type 0} (meaning : StoreMeaning S D) (sources : SourceMeaning 
     pub found : at old.timer.port new.server.held ≡ Some next
     pub changes : Changes Idle Silent now old.timer new.timer transfer.end next.end
 
-  same_transfer : (port : ℕ) (held : List (ℕ × TransferState F D)) (a b : TransferState F D) → at port held ≡ Some a
-      → at port held ≡ Some b → a ≡ b
-  same_transfer port held a b h k = same_Some a b (sym h ∙ k)
-
-  put_next : (port : ℕ) (old new : List (ℕ × TransferState F D)) (transfer next : TransferState F D)
-      → at port old ≡ Some transfer → new ≡ with_next port next old → at port new ≡ Some next
-  put_next port old new transfer next found is = ap (at port) is
-      ∙ set_found (is_at (nat_cmp port)) transfer next old found
-
   -- what a step at a port does to the end that the table has there
   pub at_transfer : (now : ℕ) (old new : PortState S F D) (does : PortStep meaning sources now old new)
       (transfer : TransferState F D) → at old.timer.port old.server.held ≡ Some transfer
@@ -216,24 +186,20 @@ module _ {S F D : Type 0} (meaning : StoreMeaning S D) (sources : SourceMeaning 
   at_transfer now old new (A_datagram d) transfer found =
       let takes = d.handles.takes in
       let step = takes.takes in
-      let own = same_transfer old.timer.port old.server.held takes.transfer transfer takes.found found in
+      let own : takes.transfer ≡ transfer = same_Some takes.transfer transfer (sym takes.found ∙ found) in
       let progress : d.step.progress ≡ is_progress takes.transfer.end.position.phase step.turn.position.phase =
       ap (λ (s : Step). s.progress) step.reports in
       let handled : HandledSo takes.transfer.end takes.next.end d.step.progress =
-      subst (λ (e : EndState). HandledSo takes.transfer.end e d.step.progress) (sym step.carries.state) (record {
+      rw (step.carries.state) (record {
         role = refl;
-        moves = datagram_moves sources (drafting_sink meaning) d.from d.bytes takes.transfer.end _ step.turn _
-            step.steps;
-        left = λ still. datagram_left sources (drafting_sink meaning) d.from d.bytes takes.transfer.end _ step.turn _
-            step.steps (sym progress ∙ still);
+        moves = datagram_moves step.steps;
+        left = λ still. datagram_left step.steps (sym progress ∙ still);
       }) in
       record {
         next = takes.next;
-        found = put_next old.timer.port old.server.held new.server.held takes.transfer takes.next takes.found
+        found = next_found old.timer.port old.server.held new.server.held takes.transfer takes.next takes.found
             takes.held;
-        changes = subst (λ (t : TransferState F D). Changes
-            (d.step.progress ≡ false) ⊥ now old.timer new.timer t.end takes.next.end) own
-            (By_datagram d.step.progress handled (λ h. h) (λ h. h) d.timer);
+        changes = rw (← own) (By_datagram d.step.progress handled (λ h. h) (λ h. h) d.timer);
       }
   at_transfer now old new (A_lost_datagram d) transfer found =
       let keeps =
@@ -241,16 +207,16 @@ module _ {S F D : Type 0} (meaning : StoreMeaning S D) (sources : SourceMeaning 
       found d.loses.keeps in
       record {
         next = keeps.0;
-        found = put_next old.timer.port old.server.held new.server.held transfer keeps.0 found keeps.2;
-        changes = By_nothing keeps.1.end (ap (λ (t : Timer). t.deadline) d.timer)
-            (ap (λ (t : Timer). wait_in t) d.timer) (ap (λ (t : Timer). t.timeouts) d.timer) (ap (λ (t : Timer). t.provisional) d.timer);
+        found = next_found old.timer.port old.server.held new.server.held transfer keeps.0 found keeps.2;
+        changes = By_nothing keeps.1.end (ap (λ (t : Timer). t.deadline) d.timer) (ap wait_in d.timer)
+            (ap (λ (t : Timer). t.timeouts) d.timer) (ap (λ (t : Timer). t.provisional) d.timer);
       }
   at_transfer now old new (A_timeout d) transfer found =
       let t = d.times_out.times_out in
-      let own = same_transfer old.timer.port old.server.held t.transfer transfer t.found found in
+      let own : t.transfer ≡ transfer = same_Some t.transfer transfer (sym t.found ∙ found) in
       record {
         next = with_end t.end t.transfer;
-        found = put_next old.timer.port old.server.held new.server.held t.transfer
+        found = next_found old.timer.port old.server.held new.server.held t.transfer
             (with_end t.end t.transfer) t.found t.held;
         changes = subst (λ (u : TransferState F D). Changes ⊤ ⊤ now old.timer new.timer u.end t.end) own
             (By_timeout (is_some d.step.to) (open_left t.transfer.end.position.phase
@@ -270,15 +236,14 @@ module _ {S F D : Type 0} (meaning : StoreMeaning S D) (sources : SourceMeaning 
       found d.works.works in
       record {
         next = works.0;
-        found = put_next old.timer.port old.server.held new.server.held transfer works.0 found works.2;
+        found = next_found old.timer.port old.server.held new.server.held transfer works.0 found works.2;
         changes = By_nothing (ap (λ (t : TransferState F D). t.end) works.1.rest)
-            (ap (λ (t : Timer). t.deadline) d.timer) (ap (λ (t : Timer). wait_in t) d.timer) (ap (λ (t : Timer). t.timeouts) d.timer)
+            (ap (λ (t : Timer). t.deadline) d.timer) (ap wait_in d.timer) (ap (λ (t : Timer). t.timeouts) d.timer)
             (ap (λ (t : Timer). t.provisional) d.timer);
       }
   at_transfer now old new does transfer found = record {
     next = transfer;
     found = ap (λ (s : ServerState S F D). at old.timer.port s.held) (server_is does) ∙ found;
-    changes = By_nothing refl (ap (λ (t : Timer). t.deadline) (timer_is does))
-        (ap (λ (t : Timer). wait_in t) (timer_is does)) (ap (λ (t : Timer). t.timeouts) (timer_is does))
-        (ap (λ (t : Timer). t.provisional) (timer_is does));
+    changes = By_nothing refl (ap (λ (t : Timer). t.deadline) (timer_is does)) (ap wait_in (timer_is does))
+        (ap (λ (t : Timer). t.timeouts) (timer_is does)) (ap (λ (t : Timer). t.provisional) (timer_is does));
   }

@@ -1,11 +1,11 @@
 -- What happens at the port of a transfer, call by call. For `PortVisit::answer`, `PortVisit::take_datagrams`,
 -- `PortVisit::take_timeout` and LoopRuns.
 use Rattle.tftp_loop.proofs.Common.{◌≡◌, ◌≤◌, ◌<◌, ◌⊎◌, ℕ, true, false, List, ◌∷◌, Option, Some, None, inl, inr, refl}
-use Rattle.tftp_loop.proofs.Common.{ap, subst, ◌∙◌, is_some, SourceMeaning, Endpoint, Step, StoreMeaning, ServerState}
-use Rattle.tftp_loop.proofs.Common.{at, SocketEvent, Received, Elapsed, Quiet, Empty, Failed, was_tried, Run, Then}
-use Rattle.tftp_loop.proofs.Common.{Timer, PortState, PortStep, WorksAtPort, marked_as, most_in_round, restarted}
-use Rattle.tftp_loop.proofs.Common.{timer_after, A_datagram, A_lost_datagram, A_late_datagram, Nothing_found}
-use Rattle.tftp_loop.proofs.Common.{A_failed_receive, A_timeout, A_missed_timeout, Work}
+use Rattle.tftp_loop.proofs.Common.{ap, ◌∙◌, SourceMeaning, Endpoint, Step, StoreMeaning, ServerState, at, SocketEvent}
+use Rattle.tftp_loop.proofs.Common.{Received, Elapsed, Quiet, Empty, Failed, was_tried, Run, Then, Timer, PortState}
+use Rattle.tftp_loop.proofs.Common.{PortStep, WorksAtPort, marked_as, most_in_round, restarted, timer_after, A_datagram}
+use Rattle.tftp_loop.proofs.Common.{A_lost_datagram, A_late_datagram, Nothing_found, A_failed_receive, A_timeout}
+use Rattle.tftp_loop.proofs.Common.{A_missed_timeout, Work}
 use Rattle.std.specs.Prelude.{MatchOption}
 use Rattle.tftp_server.specs.State.{is_open}
 use Rattle.tftp_loop.specs.Steps.{AnswersDatagram, LosesDatagram}
@@ -41,15 +41,13 @@ module _ {S F D : Type 0} (meaning : StoreMeaning S D) (sources : SourceMeaning 
       AnswersDatagram meaning sources timer.port from bytes old new before es' step
       → timer' ≡ timer_after now step.progress timer → Runs (here old timer es) (here new timer' es')
   receives old new timer timer' es before es' from bytes step in_time few noted handles timed =
-      let At : List SocketEvent → Type 0 =
-      λ before. AnswersDatagram meaning sources timer.port from bytes old new before es' step in
       once (A_datagram (record {
         few = few;
         in_time = in_time;
         from = from;
         bytes = bytes;
         step = step;
-        handles = subst At noted handles;
+        handles = rw noted at handles;
         timer = timed;
       }))
 
@@ -93,41 +91,7 @@ module _ {S F D : Type 0} (meaning : StoreMeaning S D) (sources : SourceMeaning 
   then_works start old new timer es tid r same (inl e) =
       onward r (idle (ap (λ (s : ServerState S F D). here s timer es) e))
   then_works start old new timer es tid r same (inr w) =
-      let At : ℕ → Type 0 = λ p. WorksAtPort meaning sources p old new in
-      Then r (Work (record { works = subst At same w; timer = refl; events = refl }))
-
-  -- a timeout was delivered, and what was sent again
-  pub elapses : (old new : ServerState S F D) (timer timer' : Timer) (es before es' : List SocketEvent) (tid : ℕ)
-      (step : Step)
-      → timer.deadline ≤ now → was_tried timer.port es ≡ true → timer.look_at ≡ timer.deadline
-      → before ≡ Elapsed tid now ∷ es → tid ≡ timer.port
-      → AnswersTimeout timer.port old new before es' step → timer' ≡ restarted now (is_some step.to) timer
-      → Runs (here old timer es) (here new timer' es')
-  elapses old new timer timer' es before es' tid step due tried looked noted same times_out timed =
-      let At : List SocketEvent → Type 0 = λ before. AnswersTimeout timer.port old new before es' step in
-      once (A_timeout (record {
-        step = step;
-        due = due;
-        tried = tried;
-        looked = looked;
-        times_out = subst At (noted ∙ ap (λ (p : ℕ). Elapsed p now ∷ es) same) times_out;
-        timer = timed;
-      }))
-
-  -- a timeout at a port without an open transfer only restarts the timer
-  pub elapses_missed : (old new : ServerState S F D) (timer timer' : Timer) (es before es' : List SocketEvent) (tid : ℕ)
-      → timer.deadline ≤ now → timer.look_at ≡ timer.deadline → before ≡ Elapsed tid now ∷ es → tid ≡ timer.port
-      → is_open (at timer.port old.held) ≡ false → new ≡ old → es' ≡ before
-      → timer' ≡ restarted now false timer → Runs (here old timer es) (here new timer' es')
-  elapses_missed old new timer timer' es before es' tid due looked noted same closed unmoved events timed =
-      once (A_missed_timeout (record {
-        due = due;
-        looked = looked;
-        closed = closed;
-        server = unmoved;
-        timer = timed;
-        events = events ∙ noted ∙ ap (λ (p : ℕ). Elapsed p now ∷ es) same;
-      }))
+      Then r (Work (record { works = rw same at w; timer = refl; events = refl }))
 
   -- a due timeout was delivered, whether or not a transfer is open
   pub elapses_either : (old new : ServerState S F D) (timer timer' : Timer) (es before es' : List SocketEvent) (tid : ℕ)
@@ -138,10 +102,21 @@ module _ {S F D : Type 0} (meaning : StoreMeaning S D) (sources : SourceMeaning 
       (λ step. AnswersTimeout port old new before es' step)
       → timer' ≡ restarted now (sends_again made) timer → Runs (here old timer es) (here new timer' es')
   elapses_either old new timer timer' es before es' tid None port due tried looked noted same here_too steps timed =
-      let At : ℕ → Type 0 = λ p. is_open (at p old.held) ≡ false in
-      elapses_missed old new timer timer' es before es' tid due looked noted same
-      (subst At here_too steps.0) steps.1 steps.2 timed
+      once (A_missed_timeout (record {
+        due = due;
+        looked = looked;
+        closed = rw here_too at steps.0;
+        server = steps.1;
+        timer = timed;
+        events = steps.2 ∙ noted ∙ ap (λ (p : ℕ). Elapsed p now ∷ es) same;
+      }))
   elapses_either old new timer timer' es before es' tid
       (Some step) port due tried looked noted same here_too steps timed =
-      let At : ℕ → Type 0 = λ p. AnswersTimeout p old new before es' step in
-      elapses old new timer timer' es before es' tid step due tried looked noted same (subst At here_too steps) timed
+      once (A_timeout (record {
+        step = step;
+        due = due;
+        tried = tried;
+        looked = looked;
+        times_out = rw (here_too, noted, same) at steps;
+        timer = timed;
+      }))

@@ -1,14 +1,15 @@
 -- What a visit of one port leaves of the others. For `PortVisit::answer` and 13 other files.
 use Rattle.tftp_loop.proofs.Common.{arith, ◌≡◌, ◌≤◌, ◌==◌, ◌||◌, ℕ, Bool, true, false, List, ◌∷◌, Option, Some, None}
 use Rattle.tftp_loop.proofs.Common.{IsSome, ◌+◌, refl, sym, ap, subst, ◌∙◌, is_at, nat_cmp, eq-eqb, SourceMeaning}
-use Rattle.tftp_loop.proofs.Common.{Endpoint, is_some, wait_of, Reply, StoreMeaning, TransferState, ServerState, at}
-use Rattle.tftp_loop.proofs.Common.{with_next, KeepsHeld, WorksAt, deadline_of, SocketEvent, answered, replied}
-use Rattle.tftp_loop.proofs.Common.{Received, Elapsed, was_tried, Run, Start, Then, Timer, PortState, PortStep}
-use Rattle.tftp_loop.proofs.Common.{restarted, timer_after, A_datagram, A_lost_datagram, A_timeout, A_missed_timeout}
-use Rattle.tftp_loop.proofs.Common.{Work, IsRead, KeepsTries}
+use Rattle.tftp_loop.proofs.Common.{Endpoint, wait_of, StoreMeaning, TransferState, ServerState, at, with_next}
+use Rattle.tftp_loop.proofs.Common.{KeepsHeld, WorksAt, deadline_of, SocketEvent, replied, Received, was_tried, Run}
+use Rattle.tftp_loop.proofs.Common.{Start, Then, Timer, PortState, PortStep, timer_after, A_datagram, A_lost_datagram}
+use Rattle.tftp_loop.proofs.Common.{A_timeout, A_missed_timeout, Work, IsRead, KeepsTries}
 use Rattle.tftp_loop.specs.Steps.{next_look}
-use Rattle.tftp_loop.proofs.Tables.{set_apart, set_there}
-use Rattle.tftp_loop.proofs.NewStates.{trace_is, timer_is, server_is, new_trace}
+use Rattle.std.proofs.lemmas.Map.{keys-set_value}
+use Rattle.std.proofs.lemmas.Map.Made.{IsSome-lookup_same_keys}
+use Rattle.tftp_loop.proofs.Tables.{set_apart}
+use Rattle.tftp_loop.proofs.NewStates.{noted_by, replied_same, same_noted, server_is, timer_is}
 
 -- a disjunction is true by its second part
 pub or_right : (a b : Bool) → b ≡ true → (a || b) ≡ true
@@ -20,20 +21,10 @@ pub or_left : (a b : Bool) → a ≡ true → (a || b) ≡ true
 or_left true b h = refl
 or_left false b h = absurd (let f : false ≡ true = h in cc)
 
--- an answer is no wait
-pub answered_tries : (port : ℕ) (reply : Option Reply) (events : List SocketEvent) →
-    KeepsTries events (answered port reply events)
-answered_tries port None events q h = h
-answered_tries port (Some reply) events q h = h
-
 -- to send an answer keeps the tries of all ports
 pub replied_tries : (port : ℕ) (to : Option Endpoint) (bytes : List ℕ) (events : List SocketEvent) →
     KeepsTries events (replied port to bytes events)
-replied_tries port None bytes events q h = h
-replied_tries port (Some to) bytes events q h = h
-
-same_tries : (es fs : List SocketEvent) → fs ≡ es → KeepsTries es fs
-same_tries es fs e = subst (KeepsTries es) (sym e) (λ q h. h)
+replied_tries port to bytes events q h = replied_same (was_tried q) (λ p t bs es. refl) port to bytes events ∙ h
 
 -- a receive at a port is a try of that port
 pub own_receive : (port : ℕ) (before : Bool) → ((port == port) || before) ≡ true
@@ -63,10 +54,11 @@ module _ {F D : Type 0} where
   pub next_held : (port : ℕ) (old new : List (ℕ × TransferState F D)) (next : TransferState F D) →
       new ≡ with_next port next old → StaysHeld port old new
   next_held port old new next e = record {
-    others = λ q apart. ap (at q) e ∙ set_apart port q old next apart;
+    others = λ q apart. ap (at q) e ∙ set_apart port q apart old next;
     there = λ q h.
         subst (λ (held : List (ℕ × TransferState F D)). IsSome (at q held)) (sym e)
-        (set_there (is_at (nat_cmp port)) (is_at (nat_cmp q)) old next ∙ h);
+        ((IsSome-lookup_same_keys (is_at (nat_cmp q)) old (with_next port next old)
+        (sym (keys-set_value (is_at (nat_cmp port)) old next))).0 h);
   }
 
   -- what stays twice stays
@@ -103,6 +95,11 @@ after_received now true timer = refl
 after_received now false timer = refl
 
 module _ {S F D : Type 0} (meaning : StoreMeaning S D) (sources : SourceMeaning F) where
+  -- the answer of a step at a port is no wait
+  pub keeps_noted : {now : ℕ} {old new : PortState S F D} (does : PortStep meaning sources now old new)
+      → KeepsTries (noted_by does) new.events
+  keeps_noted does q h = same_noted (was_tried q) (λ p t bs es. refl) does ∙ h
+
   same_server : (port : ℕ) (old new : ServerState S F D) → new ≡ old → StaysHeld port old.held new.held
   same_server port old new e = same_held port old.held new.held (ap (λ (s : ServerState S F D). s.held) e)
 
@@ -125,82 +122,66 @@ module _ {S F D : Type 0} (meaning : StoreMeaning S D) (sources : SourceMeaning 
     pub tries : KeepsTries old.events new.events
     pub read : IsRead old.events old.timer → IsRead new.events new.timer
 
-  looks_by : (timer after : Timer) → after ≡ timer → Looks timer → Looks after
-  looks_by timer after e h = subst Looks (sym e) h
-
   -- the port was read
   read_by : (timer after : Timer) (es : List SocketEvent) → after.port ≡ timer.port → was_tried timer.port es ≡ true →
       IsRead es after
   read_by timer after es same tried marked = subst (λ (p : ℕ). was_tried p es ≡ true) (sym same) tried
 
   -- a step that begins with a receive at its port
-  receives_at : (old new : PortState S F D) (noted : List SocketEvent) → KeepsTries noted new.events
-      → ((q : ℕ) → was_tried q noted ≡ ((old.timer.port == q) || was_tried q old.events))
+  receives_at : {now : ℕ} (old new : PortState S F D) (does : PortStep meaning sources now old new)
+      → ((q : ℕ) → was_tried q (noted_by does) ≡ ((old.timer.port == q) || was_tried q old.events))
       → new.timer.port ≡ old.timer.port → StaysHeld old.timer.port old.server.held new.server.held
       → (Looks old.timer → Looks new.timer) → StaysAt old new
-  receives_at old new noted more reads port held look = record {
+  receives_at old new does reads port held look = record {
     port = port;
     held = held;
     look = look;
-    tries = λ q h. more q (reads q ∙ or_right (old.timer.port == q) (was_tried q old.events) h);
+    tries = λ q h. keeps_noted does q (reads q ∙ or_right (old.timer.port == q) (was_tried q old.events) h);
     read =
         λ h. read_by old.timer new.timer new.events port
-        (more old.timer.port (reads old.timer.port ∙ own_receive old.timer.port (was_tried old.timer.port old.events)));
+        (keeps_noted does old.timer.port (reads old.timer.port
+        ∙ own_receive old.timer.port (was_tried old.timer.port old.events)));
   }
 
   -- a step at a port keeps the rest of the server
   pub stays_at : (now : ℕ) (old new : PortState S F D) → PortStep meaning sources now old new → StaysAt old new
   stays_at now old new (A_datagram d) =
-      let received = Received old.timer.port d.from d.bytes ∷ old.events in
-      receives_at old new received
-      (subst (KeepsTries received) (sym d.handles.events)
-      (answered_tries old.timer.port d.handles.takes.takes.turn.reply received)) (λ q. refl)
+      receives_at old new (A_datagram d) (λ q. refl)
       (ap (λ (t : Timer). t.port) d.timer ∙ after_port now d.step.progress old.timer)
       (next_held old.timer.port old.server.held new.server.held d.handles.takes.next d.handles.takes.held)
-      (λ h. looks_by (timer_after now d.step.progress old.timer) new.timer d.timer
-      (after_looks now d.step.progress old.timer))
+      (λ h. rw (d.timer) (after_looks now d.step.progress old.timer))
   stays_at now old new (A_lost_datagram d) =
-      receives_at old new (Received old.timer.port d.from d.bytes ∷ old.events) (same_tries _ new.events d.events)
-      (λ q. refl)
-      (ap (λ (t : Timer). t.port) d.timer)
+      receives_at old new (A_lost_datagram d) (λ q. refl) (ap (λ (t : Timer). t.port) d.timer)
       (keeps_held old.timer.port (at old.timer.port old.server.held) old.server new.server d.loses.keeps)
-      (λ h. looks_by (timer_after now false old.timer) new.timer d.timer (omega arith))
+      (λ h. rw (d.timer) (omega arith))
   stays_at now old new (A_timeout d) =
       let port = ap (λ (t : Timer). t.port) d.timer in
-      let elapsed = Elapsed old.timer.port now ∷ old.events in
-      let more : KeepsTries elapsed new.events =
-      subst (KeepsTries elapsed) (sym d.times_out.events) (answered_tries old.timer.port _ elapsed) in
       record {
         port = port;
         held = next_held old.timer.port old.server.held new.server.held _ d.times_out.times_out.held;
-        look = λ h. looks_by (restarted now (is_some d.step.to) old.timer) new.timer d.timer (omega arith);
-        tries = λ q h. more q h;
-        read = λ h. read_by old.timer new.timer new.events port (more old.timer.port d.tried);
+        look = λ h. rw (d.timer) (omega arith);
+        tries = keeps_noted (A_timeout d);
+        read = λ h. read_by old.timer new.timer new.events port (keeps_noted (A_timeout d) old.timer.port d.tried);
       }
   stays_at now old new (A_missed_timeout d) =
-      let more : KeepsTries old.events new.events =
-      same_tries (Elapsed old.timer.port now ∷ old.events) new.events d.events in
       record {
         port = ap (λ (t : Timer). t.port) d.timer;
         held = same_server old.timer.port old.server new.server d.server;
-        look = λ h. looks_by (restarted now false old.timer) new.timer d.timer (omega arith);
-        tries = more;
-        read = λ h. subst (IsRead new.events) (sym d.timer) (λ m. more old.timer.port (h m));
+        look = λ h. rw (d.timer) (omega arith);
+        tries = keeps_noted (A_missed_timeout d);
+        read = λ h. rw (d.timer) (λ m. keeps_noted (A_missed_timeout d) old.timer.port (h m));
       }
   stays_at now old new (Work d) =
-      let more = same_tries old.events new.events d.events in
       record {
         port = ap (λ (t : Timer). t.port) d.timer;
         held = works_held old.timer.port (at old.timer.port old.server.held) old.server new.server d.works.works;
-        look = λ h. looks_by old.timer new.timer d.timer h;
-        tries = more;
-        read = λ h. subst (IsRead new.events) (sym d.timer) (λ m. more old.timer.port (h m));
+        look = λ h. rw (d.timer) h;
+        tries = keeps_noted (Work d);
+        read = λ h. rw (d.timer) (λ m. keeps_noted (Work d) old.timer.port (h m));
       }
   stays_at now old new does =
-      let noted = (new_trace does).0 in
-      receives_at old new noted (same_tries noted new.events (trace_is does)) (λ q. refl)
-      (ap (λ (t : Timer). t.port) (timer_is does)) (same_server old.timer.port old.server new.server (server_is does))
-      (λ h. looks_by _ new.timer (timer_is does) (omega arith))
+      receives_at old new does (λ q. refl) (ap (λ (t : Timer). t.port) (timer_is does))
+      (same_server old.timer.port old.server new.server (server_is does)) (λ h. rw (timer_is does) (omega arith))
 
   stays_onward : (a b c : PortState S F D) → StaysAt a b → StaysAt b c → StaysAt a c
   stays_onward a b c x y = record {

@@ -2,32 +2,25 @@
 -- and PoolLemmas.
 use Rattle.tftp_loop.proofs.Common.{arith, ◌≡◌, ◌<◌, ◌≤◌, ◌+◌, ◌-◌, ℕ, zero, suc, false, List, [], ◌∷◌, ◌++◌, length}
 use Rattle.tftp_loop.proofs.Common.{take, drop, refl, sym, ap, subst, ◌∙◌, inl, inr, AllByRecursion, range_with_len}
-use Rattle.tftp_loop.proofs.Common.{cases_eq, eq-eqb, ne_eqb, append_assoc, PortRange, coming, drawn_from}
+use Rattle.tftp_loop.proofs.Common.{cases_eq, eq-eqb, ne_eqb, append_assoc, coming, drawn_from}
 use Rattle.std.proofs.Common.{◌/◌}
 use Rattle.std.specs.Prelude.{nat_eq, IsPermutation}
 use Rattle.std.specs.List.{IsDistinct}
 use Rattle.std.proofs.lemmas.Bool.{cases_lt}
 use Rattle.std.proofs.Math.Seq.{drop-append_seam}
+use Rattle.std.proofs.lemmas.List.FromFn.{length-range_with_len}
 use Rattle.std.proofs.lemmas.List.{drop-drop, take-append-drop}
+pub use Rattle.std.proofs.lemmas.List.{append-nil as nothing_after, length-append as long}
 use Rattle.std.proofs.lemmas.List.Sorted.{IsPermutation-append_comm, IsPermutation-refl, IsPermutation-trans}
 use Rattle.std.proofs.lemmas.List.Sorted.{length_permutation}
 use Rattle.std.proofs.lemmas.Map.Keys.{IsDistinct-IsPermutation}
 use Rattle.tftp_loop.specs.declared.port_order.PortOrder.{PortOrder}
-use Rattle.tftp_loop.specs.PortOrder.{IsOrderOf, Mixes, UsesNext, port_count, ports_of}
-use Rattle.tftp_loop.specs.PortsInTurn.{Unused, Uses, UsesPorts}
+use Rattle.tftp_loop.specs.PortOrder.{Mixes, UsesNext, ports_of}
+use Rattle.tftp_loop.specs.PortsInTurn.{Unused, Uses, UsesNoPortTwice, UsesPorts}
 
 abbrev others_of : List ℕ → List ℕ
 others_of [] = []
 others_of (x ∷ xs) = xs
-
-pub nothing_after : (xs : List ℕ) → xs ++ [] ≡ xs
-nothing_after [] = refl
-nothing_after (x ∷ xs) = ap (λ (ys : List ℕ). x ∷ ys) (nothing_after xs)
-
--- the length of two lists together is the sum
-pub long : (xs ys : List ℕ) → length (xs ++ ys) ≡ length xs + length ys
-long [] ys = let e : length ys ≡ 0 + length ys = omega arith in e
-long (x ∷ xs) ys = let e = long xs ys in omega (arith, e)
 
 all_and : (P : ℕ → Type 0) (xs : List ℕ) (x : ℕ) → AllByRecursion P xs → P x → AllByRecursion P (xs ++ x ∷ [])
 all_and P [] x h own = (own, tt)
@@ -42,10 +35,6 @@ above low from (suc count) h = (
   above low (from + 1) count
       (omega (arith, h)),
 )
-
-range_long : (from count : ℕ) → length (range_with_len from count) ≡ count
-range_long from zero = refl
-range_long from (suc count) = ap suc (range_long (from + 1) count)
 
 -- the last port of a range is not among those before it
 last_above : (from count last : ℕ) → from + count ≤ last → IsDistinct nat_eq (range_with_len from count ++ last ∷ [])
@@ -163,16 +152,14 @@ flips x y = elim (cases_eq x y) [
 ]
 
 -- so few uses are of different ports
-pub uses_no_port_twice : (range : PortRange) (first last : PortOrder) (ports : List ℕ)
-    → IsOrderOf range first → UsesPorts first ports last
-    → length ports + drawn_from range ≤ port_count range + 1 → IsDistinct nat_eq ports
+pub uses_no_port_twice : UsesNoPortTwice
 uses_no_port_twice range first last ports order uses few =
     let moved = order.all in
     let all : length (coming first) ≡ length (ports_of range) =
     length_permutation (ports_of range) (coming first) moved in
     let sum : length (ports_of range) ≡ length (range_with_len range.first (range.last - range.first)) + 1 =
     long (range_with_len range.first (range.last - range.first)) (range.last ∷ []) in
-    let count = range_long range.first (range.last - range.first) in
+    let count = length-range_with_len range.first (range.last - range.first) in
     let half : drawn_from first.range ≡ drawn_from range = ap drawn_from order.same in
     let some : 1 ≤ drawn_from range = some_drawn (range.last - range.first) in
     let after = come_last first last ports uses (omega (arith, all, sum, count, half, few)) (omega (arith, half, some)) in

@@ -1,11 +1,13 @@
 -- What is received at the request port, and what becomes of it. For six functions.
-use Rattle.tftp_loop.proofs.Common.{arith, ◌≡◌, ◌||◌, ◌&&◌, not, ℕ, zero, suc, Bool, true, false, List, [], ◌∷◌, length}
-use Rattle.tftp_loop.proofs.Common.{map, take, min, Option, Some, None, refl, sym, ap, subst, ◌∙◌, ◌⊎◌, inl, inr, All}
-use Rattle.tftp_loop.proofs.Common.{Result, Ok, Err, SourceMeaning, Endpoint, StoreMeaning, SocketEvent, Received}
-use Rattle.tftp_loop.proofs.Common.{Quiet, Empty, Failed, was_tried, ServerLoop, LoopState, Timer, is_draining}
-use Rattle.tftp_loop.proofs.Common.{No_request_found, Request_not_received, Drain_begun, Work_by, loop_state}
-use Rattle.tftp_loop.proofs.Common.{pending_in, state_of, timer_of, AreSettled, IsSettled, ReceivedFew}
+use Rattle.tftp_loop.proofs.Common.{arith, ◌≡◌, ◌||◌, ◌&&◌, not, ℕ, Bool, true, false, List, [], ◌∷◌, length, map, take}
+use Rattle.tftp_loop.proofs.Common.{min, Option, Some, None, refl, sym, ap, subst, ◌∙◌, ◌⊎◌, inl, inr, All, Result, Ok}
+use Rattle.tftp_loop.proofs.Common.{Err, SourceMeaning, Endpoint, StoreMeaning, SocketEvent, Received, Quiet, Empty}
+use Rattle.tftp_loop.proofs.Common.{Failed, was_tried, ServerLoop, LoopState, Timer, is_draining, No_request_found}
+use Rattle.tftp_loop.proofs.Common.{Request_not_received, Drain_begun, Work_by, loop_state, pending_in, state_of}
+use Rattle.tftp_loop.proofs.Common.{timer_of, timers_of, TransferState, AreSettled, IsSettled, ReceivedFew}
 use Rattle.std.specs.Prelude.{IfErr, IsErrAnd, OnOk}
+use Rattle.std.proofs.lemmas.Bool.{cases_lt}
+use Rattle.std.proofs.lemmas.List.{take_all}
 use Rattle.std.proofs.lemmas.Result.{err_from_is_err_and}
 use Rattle.tftp_sockets.specs.Trace.{QuietEvent, looked}
 use Rattle.tftp_sockets.specs.Trace.QuietEvent.{Drain_signalled}
@@ -16,7 +18,7 @@ use Rattle.tftp_loop.specs.LoopStates.{FailsToPrint, StopsRunning, noted_at_end}
 use Rattle.tftp_loop.specs.LoopStates.{IsEmptied, WorksRound}
 use Rattle.tftp_loop.specs.MayWait.{AnswersPending, AreTried, HandlesReceived, Concluded, Kept}
 use Rattle.tftp_loop.specs.MayWait.{HasFew, HasTriedRequests, reads_of}
-use Rattle.tftp_loop.proofs.LoopRuns.{Runs, same_state}
+use Rattle.tftp_loop.proofs.LoopRuns.{Runs}
 use Rattle.tftp_loop.proofs.LoopStays.{work_keeps}
 use Rattle.tftp_loop.proofs.Opened.{concludes_asked, concludes_few, concludes_settled}
 use Rattle.tftp_loop.proofs.PortStays.{received_tried}
@@ -24,24 +26,13 @@ use Rattle.tftp_loop.proofs.RequestRuns.{concludes_run, receives_as}
 use Rattle.tftp_loop.proofs.RunLemmas.{idle, once, onward}
 use Rattle.tftp_loop.proofs.Waits.{pending_same}
 
-none_least : (m : ℕ) → min 0 m ≡ 0
-none_least m = omega arith
-
-least_none : (n : ℕ) → min n 0 ≡ 0
-least_none n = omega arith
-
-none_taken_of : {X : Type 0} (n : ℕ) → take {A = X} 0 [] ≡ take {A = X} (suc n) []
-none_taken_of n = refl
-
-more_least : (n m : ℕ) → min (suc n) (suc m) ≡ suc (min n m)
-more_least n m = omega arith
-
 take_least : {X : Type 0} (n : ℕ) (xs : List X) → take (min n (length xs)) xs ≡ take n xs
-take_least {X = X} zero xs = ap (λ (m : ℕ). take m xs) (none_least (length xs))
-take_least {X = X} (suc n) [] = ap (λ (m : ℕ). take {A = X} m []) (least_none (suc n))
-    ∙ none_taken_of n
-take_least {X = X} (suc n) (x ∷ xs) =
-    ap (λ (m : ℕ). take m (x ∷ xs)) (more_least n (length xs)) ∙ ap (λ (ys : List X). x ∷ ys) (take_least n xs)
+take_least n xs = elim (cases_lt n (length xs)) [
+  | inl less ↦ ap (λ (m : ℕ). take m xs) (let least : min n (length xs) ≡ n = omega (arith, less) in least)
+  | inr more ↦
+      ap (λ (m : ℕ). take m xs) (let least : min n (length xs) ≡ length xs = omega (arith, more) in least)
+      ∙ (take_all (length xs) xs (omega arith) ∙ sym (take_all n xs more))
+]
 
 -- a look that found nothing, or what it is for
 pub found_nothing : (b : Bool) (event : QuietEvent) (es ns : List SocketEvent) → b ≡ false → ns ≡ looked b event es
@@ -126,25 +117,12 @@ module _ {S F D : Type 0} (meaning : StoreMeaning S D) (sources : SourceMeaning 
         subst (λ (s : LoopState S F D). Runs meaning sources s received) (sym (none_pending before old es none))
         (receives_as meaning sources (loop_state None old es) received from (take count buffer) refl first
         (reads_when (is_draining old.drain) old.sockets.is_ready reads).0
-        (same_state received
-        (record (loop_state None old es) {
-          pending = Some (from, take count buffer);
-          marked = true;
+        (ap (λ (d : ServerLoop S F D). loop_state (Some (from, take count buffer)) d ms) is
+        ∙ (λ i. record (loop_state (Some (from, take count buffer)) old es) {
+          marked = (reads_when (is_draining old.drain) old.sockets.is_ready reads).1 i;
           asked = true;
-          events = Received old.sockets.requests.port from (take count buffer) ∷ es;
-        })
-        (ap (λ (d : ServerLoop S F D). d.sockets.requests.port) is)
-        (ap (λ (d : ServerLoop S F D). d.sockets.pool.range) is) (ap (λ (d : ServerLoop S F D). d.longest) is)
-        (ap (λ (d : ServerLoop S F D). d.backoff) is)
-        (ap (λ (d : ServerLoop S F D). d.requests_only) is)
-        (ap (λ (d : ServerLoop S F D). d.per_client) is)
-        (ap (λ (d : ServerLoop S F D). d.server) is) refl (ap (λ (d : ServerLoop S F D). (loop_state None d es).timers) is)
-        (ap (λ (d : ServerLoop S F D). d.sockets.watch) is)
-        (ap (λ (d : ServerLoop S F D). d.sockets.limit) is) refl
-        (ap (λ (d : ServerLoop S F D). d.sockets.is_ready) is
-        ∙ (reads_when (is_draining old.drain) old.sockets.is_ready reads).1)
-        (ap (λ (d : ServerLoop S F D). d.sockets.has_received) is) (ap (λ (d : ServerLoop S F D). d.drain) is)
-        (ap (λ (d : ServerLoop S F D). d.left) is) (ap (λ (d : ServerLoop S F D). d.rounds) is) events))
+          events = events i;
+        })))
 
     received_is_tried : AreTried received
     received_is_tried m =
@@ -170,27 +148,22 @@ module _ {S F D : Type 0} (meaning : StoreMeaning S D) (sources : SourceMeaning 
         from_state buffer new ns ((work_keeps meaning sources received (state_of buffer new ns) (then_run handles)).tried
         received_is_tried)
 
-    noted_settled : IsSettled old → IsSettled noted
-    noted_settled settled = subst (λ (d : ServerLoop S F D). IsSettled d) (sym is) settled
-
-    then_settled : HandlesReceived meaning sources from count buffer noted ms new ns → IsSettled noted → IsSettled new
-    then_settled (Concluded answers pending) settled =
-        answered_settled (take count buffer) noted new ms ns from answers settled
-    then_settled (Kept e same) settled = subst (λ (d : ServerLoop S F D). IsSettled d) (sym e) settled
+    -- what an answer keeps of the transfers and their timers is kept
+    kept_by : (P : List (ℕ × TransferState F D) → List Timer → Type 0)
+        → (AnswersPending meaning sources from (take count buffer) noted ms new ns
+        → P noted.server.held (timers_of noted) → P new.server.held (timers_of new))
+        → HandlesReceived meaning sources from count buffer noted ms new ns
+        → P old.server.held (timers_of old) → P new.server.held (timers_of new)
+    kept_by P concluded (Concluded answers pending) holds = concluded answers (rw is holds)
+    kept_by P concluded (Kept e same) holds = rw (e, is) holds
 
     pub handled_settled : HandlesReceived meaning sources from count buffer noted ms new ns → IsSettled old → IsSettled new
-    handled_settled handles settled = then_settled handles (noted_settled settled)
-
-    then_few : (most : ℕ) → HandlesReceived meaning sources from count buffer noted ms new ns → HasFew most noted
-        → HasFew most new
-    then_few most (Concluded answers pending) few =
-        concludes_few meaning sources most received (loop_state None new ns) answers few
-    then_few most (Kept e same) few = subst (λ (d : ServerLoop S F D). HasFew most d) (sym e) few
+    handled_settled = kept_by AreSettled (answered_settled (take count buffer) noted new ms ns from)
 
     pub handled_few : (most : ℕ) → HandlesReceived meaning sources from count buffer noted ms new ns → HasFew most old
         → HasFew most new
-    handled_few most handles few =
-        then_few most handles (subst (λ (d : ServerLoop S F D). HasFew most d) (sym is) few)
+    handled_few most =
+        kept_by (λ held timers. All (ReceivedFew most) timers) (answered_few most (take count buffer) noted new ms ns from)
 
   -- ---- a receive found nothing, or failed
   looked_state : (before after : List ℕ) (old new : ServerLoop S F D) (es ns : List SocketEvent) (ready : Bool)
@@ -198,23 +171,11 @@ module _ {S F D : Type 0} (meaning : StoreMeaning S D) (sources : SourceMeaning 
       → new ≡ record old { sockets = record old.sockets { is_ready = ready } } → ns ≡ event ∷ es →
       state_of after new ns ≡ record (state_of before old es) { marked = ready; events = event ∷ es }
   looked_state before after old new es ns ready event none is events =
-      same_state (state_of after new ns)
-      (record (state_of before old es) { marked = ready; events = event ∷ es })
-      (ap (λ (d : ServerLoop S F D). d.sockets.requests.port) is)
-      (ap (λ (d : ServerLoop S F D). d.sockets.pool.range) is) (ap (λ (d : ServerLoop S F D). d.longest) is)
-      (ap (λ (d : ServerLoop S F D). d.backoff) is)
-      (ap (λ (d : ServerLoop S F D). d.requests_only) is)
-      (ap (λ (d : ServerLoop S F D). d.per_client) is)
-      (ap (λ (d : ServerLoop S F D). d.server) is)
-      (ap (λ (d : ServerLoop S F D). pending_in d.pending after) is
-      ∙ (ap (λ (p : Option (Endpoint × ℕ)). pending_in p after) none
-      ∙ sym (ap (λ (p : Option (Endpoint × ℕ)). pending_in p before) none)))
-      (ap (λ (d : ServerLoop S F D). (loop_state None d es).timers) is)
-      (ap (λ (d : ServerLoop S F D). d.sockets.watch) is)
-      (ap (λ (d : ServerLoop S F D). d.sockets.limit) is) refl
-      (ap (λ (d : ServerLoop S F D). d.sockets.is_ready) is)
-      (ap (λ (d : ServerLoop S F D). d.sockets.has_received) is) (ap (λ (d : ServerLoop S F D). d.drain) is)
-      (ap (λ (d : ServerLoop S F D). d.left) is) (ap (λ (d : ServerLoop S F D). d.rounds) is) events
+      let pending : pending_in old.pending after ≡ pending_in old.pending before =
+      ap (λ (p : Option (Endpoint × ℕ)). pending_in p after) none
+      ∙ sym (ap (λ (p : Option (Endpoint × ℕ)). pending_in p before) none) in
+      ap (λ (d : ServerLoop S F D). state_of after d ns) is
+      ∙ (λ i. record (state_of before old es) { pending = pending i; marked = ready; events = events i })
 
   -- it begins to drain
   pub drains_as : (buffer : List ℕ) (old new : ServerLoop S F D) (es ns : List SocketEvent) → old.drain ≡ Awaited

@@ -1,25 +1,23 @@
 -- A port that a wait reported is read by the next wait. For `a_server_reads_what_is_reported`.
-use Rattle.tftp_loop.proofs.Common.{after_request, arith, ◌≡◌, ◌<◌, ◌==◌, ◌⊎◌, ℕ, true, List, [], ◌∷◌, length, map}
-use Rattle.tftp_loop.proofs.Common.{Option, None, refl, sym, ap, subst, ◌∙◌, inl, inr, slice_set, slice_index_or}
-use Rattle.tftp_loop.proofs.Common.{cases_eq, none-some, length-map, SourceMeaning, Endpoint, StoreMeaning}
-use Rattle.tftp_loop.proofs.Common.{TransferState, ServerState, at, taken_of, with_new, Came, Left, A_transfer, left_by}
-use Rattle.tftp_loop.proofs.Common.{SocketEvent, Received, is_among, was_tried, Run, Start, Then, LoopConfig, Timer}
-use Rattle.tftp_loop.proofs.Common.{PortState, LoopState, PortStep, LoopStep, Waits, at_start, interval_at, marked_by}
-use Rattle.tftp_loop.proofs.Common.{port_state, started, set_by, A_datagram, A_timeout, A_missed_timeout, Work, Waited}
-use Rattle.tftp_loop.proofs.Common.{At_port, Request_received, No_request_found, Request_not_received, Request_noted}
-use Rattle.tftp_loop.proofs.Common.{Request_answered, Transfer_closed, IsNoWait, HavePortsApart, AreKept, KeepsTries}
+use Rattle.tftp_loop.proofs.Common.{after_request, arith, ◌≡◌, ◌<◌, ◌⊎◌, ℕ, true, List, [], length, map, Option, None}
+use Rattle.tftp_loop.proofs.Common.{refl, sym, ap, subst, ◌∙◌, inl, inr, slice_set, slice_index_or, cases_eq, none-some}
+use Rattle.tftp_loop.proofs.Common.{length-map, SourceMeaning, Endpoint, StoreMeaning, TransferState, ServerState, at}
+use Rattle.tftp_loop.proofs.Common.{taken_of, with_new, Came, A_transfer, left_by, SocketEvent, is_among, was_tried}
+use Rattle.tftp_loop.proofs.Common.{Run, Start, Then, Timer, PortState, LoopState, PortStep, LoopStep, Waits, at_start}
+use Rattle.tftp_loop.proofs.Common.{interval_at, marked_by, port_state, started, set_by, A_datagram, A_timeout}
+use Rattle.tftp_loop.proofs.Common.{A_missed_timeout, Work, Waited, At_port, Request_answered, Transfer_closed}
+use Rattle.tftp_loop.proofs.Common.{IsNoWait, HavePortsApart, AreKept, KeepsTries}
 use Rattle.tftp_ends.specs.declared.backoff.Backoff.TheVariants.{Constant}
-use Rattle.tftp_loop.specs.Reported.{GoesOn, Goes_by, HasTimer}
+use Rattle.tftp_loop.specs.Reported.{GoesOn, Goes_by, HasTimer, ReadsWhatIsReported}
 use Rattle.tftp_loop.proofs.ListLemmas.{map_at, set_long}
 use Rattle.tftp_loop.proofs.LoopStays.{some_none}
-use Rattle.tftp_loop.proofs.NoteLemmas.{note_tried}
-use Rattle.tftp_loop.proofs.PortStays.{StaysAt, answered_tries, or_right, own_receive, replied_tries, stays_at}
-use Rattle.tftp_loop.proofs.Sleeping.{kept_along, step_kept}
+use Rattle.tftp_loop.proofs.PortStays.{StaysAt, keeps_noted, or_right, own_receive, stays_at}
+use Rattle.tftp_loop.proofs.Sleeping.{kept_along, step_kept, step_tries}
 use Rattle.tftp_loop.proofs.Tables.{any_default, appended_at, appended_long, inserted_apart, removed_apart}
 use Rattle.tftp_loop.proofs.Tables.{removed_index, set_other, set_own}
 use Rattle.tftp_loop.proofs.Visits.{works_unclosed}
 use Rattle.tftp_loop.proofs.Waits.{waited_at}
-use Rattle.tftp_loop.proofs.NewStates.{state_is, new_trace, trace_is}
+use Rattle.tftp_loop.proofs.NewStates.{answer_is, noted_by, state_is}
 
 -- ---- at the port
 module _ {S F D : Type 0} (meaning : StoreMeaning S D) (sources : SourceMeaning F) where
@@ -55,15 +53,11 @@ module _ {S F D : Type 0} (meaning : StoreMeaning S D) (sources : SourceMeaning 
             refl d.works.works unclosed,
       )
   due_at now old new (A_datagram d) marked unclosed =
-      let received = Received old.timer.port d.from d.bytes ∷ old.events in
-      tried_at old new (stays_at meaning sources now old new (A_datagram d)) received
-      (subst (KeepsTries received) (sym d.handles.events)
-      (answered_tries old.timer.port d.handles.takes.takes.turn.reply received))
+      tried_at old new (stays_at meaning sources now old new (A_datagram d)) (noted_by (A_datagram d))
+      (keeps_noted meaning sources (A_datagram d))
       (own_receive old.timer.port (was_tried old.timer.port old.events))
   due_at now old new does marked unclosed =
-      let noted = (new_trace does).0 in
-      tried_at old new (stays_at meaning sources now old new does) noted
-      (subst (KeepsTries noted) (sym (trace_is does)) (λ q h. h))
+      tried_at old new (stays_at meaning sources now old new does) (noted_by does) (keeps_noted meaning sources does)
       (own_receive old.timer.port (was_tried old.timer.port old.events))
 
   -- ---- at all ports
@@ -155,33 +149,19 @@ module _ {S F D : Type 0} (meaning : StoreMeaning S D) (sources : SourceMeaning 
         has_port = λ d. ap (λ (u : Timer). u.port) (appended_at s.timers timer due.index d due.within) ∙ due.has_port d;
         marked = λ d. ap (λ (u : Timer). u.marked) (appended_at s.timers timer due.index d due.within) ∙ due.marked d;
         unclosed =
-            ap (λ (o : Option (TransferState F D)). taken_of o) (inserted_apart tid port transfer s.server.held apart)
+            ap (λ (o : Option (TransferState F D)). taken_of o) (inserted_apart tid port apart transfer s.server.held)
             ∙ due.unclosed;
       }
   opens_due port from tid s came free kept due = same_due port s _ refl refl due
 
   step_reads : (port : ℕ) (s t : LoopState S F D) (does : LoopStep meaning sources s t) → IsNoWait meaning sources does →
       AreKept s.server.held s.timers → Reads port s → Reads port t
-  step_reads port s t (Waited d) is kept reads = absurd is
-  step_reads port s t (At_port d) is kept (inl tried) =
-      subst (Reads port) (sym d.is)
-      (inl ((stays_at meaning sources s.now (port_state s d.timer) d.next d.does).tries port tried))
+  step_reads port s t does is kept (inl tried) = inl (step_tries meaning sources s t does is port tried)
+  step_reads port s t (Waited d) is kept (inr due) = absurd is
   step_reads port s t (At_port d) is kept (inr due) =
       subst (Reads port) (sym d.is) (step_at port s d.index d.timer d.next d.within d.is_timer d.does kept.apart due)
-  step_reads port s t (Request_received d) is kept (inl tried) =
-      subst (Reads port) (sym d.is) (inl (or_right (s.requests == port) (was_tried port s.events) tried))
-  step_reads port s t (No_request_found d) is kept (inl tried) =
-      subst (Reads port) (sym d.is) (inl (or_right (s.requests == port) (was_tried port s.events) tried))
-  step_reads port s t (Request_not_received d) is kept (inl tried) =
-      subst (Reads port) (sym d.is) (inl (or_right (s.requests == port) (was_tried port s.events) tried))
-  step_reads port s t (Request_noted d) is kept (inl tried) =
-      subst (Reads port) (sym d.is) (inl (note_tried port (was_tried port s.events) d.note ∙ tried))
-  step_reads port s t (Request_answered d) is kept (inl tried) =
-      subst (Reads port) (sym d.is) (inl (replied_tries _ d.left.opened.to d.left.sent s.events port tried))
   step_reads port s t (Request_answered d) is kept (inr due) =
-      subst (Reads port) (sym d.is) (inr
-      (subst (λ (left : Left S F D). IsDue port (after_request s d.from left)) (sym d.steps.left)
-      (opens_due port d.from d.tid s d.steps.came d.free kept due)))
+      subst (Reads port) (sym (answer_is d)) (inr (opens_due port d.from d.tid s d.steps.came d.free kept due))
   step_reads port s t (Transfer_closed d) is kept (inr due) =
       let other : due.index ≡ d.index → ⊥ =
       λ e. none-some d.taken
@@ -198,10 +178,9 @@ module _ {S F D : Type 0} (meaning : StoreMeaning S D) (sources : SourceMeaning 
         has_port = λ e. ap (λ (u : Timer). u.port) (at_index.2 e) ∙ due.has_port e;
         marked = λ e. ap (λ (u : Timer). u.marked) (at_index.2 e) ∙ due.marked e;
         unclosed =
-            ap (λ (o : Option (TransferState F D)). taken_of o) (removed_apart d.timer.port port s.server.held apart)
+            ap (λ (o : Option (TransferState F D)). taken_of o) (removed_apart d.timer.port port apart s.server.held)
             ∙ due.unclosed;
       }))
-  step_reads port s t does is kept (inl tried) = subst (Reads port) (sym (state_is does)) (inl tried)
   step_reads port s t does is kept (inr due) =
       subst (Reads port) (sym (state_is does)) (inr (same_due port s _ refl refl due))
 
@@ -247,16 +226,11 @@ module _ {S F D : Type 0} (meaning : StoreMeaning S D) (sources : SourceMeaning 
       })
 
   -- a port that a wait reports is read before the next wait
-  pub reads_what_is_reported : (config : LoopConfig) (requests reading : ℕ) (server : ServerState S F D) (before : List SocketEvent)
-      (old woken last new : LoopState S F D)
-      → Run (LoopStep meaning sources) (at_start config requests server reading before) old →
-      (waits : Waits meaning sources old woken) → Run (GoesOn meaning sources) woken last →
-      Waits meaning sources last new
-      → (port : ℕ) → is_among port waits.ports ≡ true → HasTimer port old.timers → was_tried port last.events ≡ true
+  pub reads_what_is_reported : ReadsWhatIsReported meaning sources
   reads_what_is_reported config requests reading server before old woken last new run waits goes next port among has =
       let kept =
       step_kept meaning sources old woken (Waited waits)
-      (kept_along meaning sources config requests reading server before old run) in
+      (kept_along meaning sources (at_start config requests server reading before) old refl run) in
       let end =
       reads_along port woken last goes
       (record { kept = kept; reads = inr (reported_due port old woken waits among has) }) in

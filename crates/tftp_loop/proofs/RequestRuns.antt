@@ -86,8 +86,7 @@ module _ {S F D : Type 0} (meaning : StoreMeaning S D) (sources : SourceMeaning 
   pub admits_set : (old new : ServerState S F D) (from : Endpoint) (bytes : List ℕ) (ask : Ask) →
       new ≡ record old { store = new.store } → Admits old from bytes ask → Admits new from bytes ask
   admits_set old new from bytes ask rest a =
-      let At : ServerState S F D → Type 0 = λ s. Admits s from bytes ask in
-      subst At (sym rest) (record {
+      rw rest (record {
         decoded = a.decoded;
         says = a.says;
         repeated = a.repeated;
@@ -302,12 +301,9 @@ module _ {S F D : Type 0} (meaning : StoreMeaning S D) (sources : SourceMeaning 
   refused_step : (s t : LoopState S F D) (from : Endpoint) (bytes : List ℕ) (ask : Ask) (tid : ℕ) (came : Came S F D)
       → s.pending ≡ Some (from, bytes) → IsHandledBy s.requests_only bytes → Admits s.server from bytes ask
       → Goes meaning sources s.server from bytes ask came
-      → at tid s.server.held ≡ None → IfSome (left_by came s.server from tid).opened.tid (IsOneOf s.range)
-      → IfSome (left_by came s.server from tid).opened.tid (λ port. port ≢ s.requests)
-      → IfSome (left_by came s.server from tid).opened.tid (λ _. meaning.is_set_to s.server.store tid)
-      → IfSome (left_by came s.server from tid).opened.tid (λ port. has_most s.per_client from s.timers ≡ false)
+      → at tid s.server.held ≡ None → (left_by came s.server from tid).opened.tid ≡ None
       → t ≡ after_request s from (left_by came s.server from tid) → Concludes meaning sources s t
-  refused_step s t from bytes ask tid came pending handled admits goes free port own set few is =
+  refused_step s t from bytes ask tid came pending handled admits goes free none is =
       record {
         middle = s;
         prepares = Start;
@@ -319,10 +315,10 @@ module _ {S F D : Type 0} (meaning : StoreMeaning S D) (sources : SourceMeaning 
           tid = tid;
           free = free;
           left = left_by came s.server from tid;
-          port = port;
-          own = own;
-          set = set;
-          few = few;
+          port = rw none tt;
+          own = rw none tt;
+          set = rw none tt;
+          few = rw none tt;
           steps = request_step s.server from bytes ask tid (left_by came s.server from tid) admits
               (record { came = came; goes = goes; left = refl });
           is = is;
@@ -340,11 +336,11 @@ module _ {S F D : Type 0} (meaning : StoreMeaning S D) (sources : SourceMeaning 
       → Concludes meaning sources s t
   refuses_as s t from bytes Ignores pending handled admits none is =
       let unused = free_identifier s.server.held in
-      refused_step s t from bytes Ignores unused.0 Nothing pending handled admits refl unused.1 tt tt tt tt is
+      refused_step s t from bytes Ignores unused.0 Nothing pending handled admits refl unused.1 refl is
   refuses_as s t from bytes (Refuses reply) pending handled admits none is =
       let unused = free_identifier s.server.held in
       refused_step s t from bytes (Refuses reply) unused.0 (Error_reply reply s.server.store) pending handled admits refl
-      unused.1 tt tt tt tt is
+      unused.1 refl is
   refuses_as s t from bytes (Reads path mode options) pending handled admits none is = absurd (true≢false none)
   refuses_as s t from bytes (Writes path mode agreed) pending handled admits none is = absurd (true≢false none)
 

@@ -4,16 +4,14 @@ use Rattle.tftp_loop.proofs.Common.{map, Option, Some, None, IsSome, refl, sym, 
 use Rattle.tftp_loop.proofs.Common.{Result, All, is_some, if◌then◌else◌, slice_index_or, AllByRecursion, list_any}
 use Rattle.tftp_loop.proofs.Common.{nat_cmp, true≢false, length-map, has_error_opcode, Packet, Read, Write, Limits}
 use Rattle.tftp_loop.proofs.Common.{path_of_name, SourceMeaning, StoreFault, Endpoint, StoreMeaning, Opening, Ask}
-use Rattle.tftp_loop.proofs.Common.{Ignores, Refuses, Reads, Writes, Service, Silent, Refused, Sends, Takes, Came}
-use Rattle.tftp_loop.proofs.Common.{CarriesOut, Left, left_by, Nothing, Error_reply, A_transfer, ServerState}
-use Rattle.tftp_loop.proofs.Common.{TransferState, at, Config, HavePortsApart, AreKept, IsHeld, Timer}
+use Rattle.tftp_loop.proofs.Common.{Ignores, Refuses, Reads, Service, Refused, Came, CarriesOut, Left, left_by, Nothing}
+use Rattle.tftp_loop.proofs.Common.{ServerState, TransferState, at, Config, HavePortsApart, AreKept, IsHeld, Timer}
 use Rattle.std.specs.Prelude.{nat_le}
 use Rattle.std.specs.List.{IsDistinct}
 use Rattle.std.specs.Cmp.{eq_by_cmp_equiv, nat_cmp_total}
 use Rattle.std.specs.Ordering.{eq_by_cmp}
 use Rattle.std.proofs.lemmas.Bool.Decides.{nat_tests}
 use Rattle.std.proofs.lemmas.Map.Steps.{length-le_from_keys}
-use Rattle.tftp_wire.specs.declared.packet.Packet.TheVariants.{Data, Ack, Error, Oack}
 use Rattle.tftp_file.specs.declared.fault.StoreFault.TheVariants as stores
 use Rattle.tftp_file.specs.declared.path.PathFault.{PathFault}
 use Rattle.tftp_ends.specs.declared.error_reply.ErrorReply.TheVariants.{ServerBusy}
@@ -33,24 +31,17 @@ use Rattle.tftp_loop.proofs.Tables.{compares}
 -- what lacks memory in a buffer lacks it in a shorter one
 module _ (less capacity used : ℕ) (fits : less ≤ capacity) (empty : used ≡ 0) where
   service_lacks : (service : Service) → ServiceLacksMemory capacity used service → ServiceLacksMemory less 0 service
-  service_lacks Silent lacks = lacks
   service_lacks (Refused reply) lacks = omega (arith, fits, empty, lacks)
-  service_lacks (Sends path mode long agreed) lacks = lacks
-  service_lacks (Takes path mode agreed) lacks = lacks
+  service_lacks service lacks = lacks
 
   file_lacks : {F : Type 0} (service : Service) (file : Result (Opening F) StoreFault) →
       FileLacksMemory capacity used service file → FileLacksMemory less 0 service file
-  file_lacks service (Ok opening) lacks = service_lacks service lacks
-  file_lacks service (Err stores.Missing) lacks = service_lacks service lacks
-  file_lacks service (Err stores.Exists) lacks = service_lacks service lacks
-  file_lacks service (Err stores.Full) lacks = service_lacks service lacks
-  file_lacks service (Err stores.Io) lacks = service_lacks service lacks
   file_lacks service (Err stores.Memory) lacks = lacks
+  file_lacks service file lacks = service_lacks service lacks
 
   module _ {S F D : Type 0} (meaning : StoreMeaning S D) (sources : SourceMeaning F) (old : ServerState S F D) where
     ask_lacks : (ask : Ask) → AskLacksMemory capacity used meaning sources old ask
         → AskLacksMemory less 0 meaning sources old ask
-    ask_lacks Ignores lacks = lacks
     ask_lacks (Refuses reply) lacks = omega (arith, fits, empty, lacks)
     ask_lacks (Reads path mode options) lacks = record {
       file = lacks.file;
@@ -59,7 +50,7 @@ module _ (less capacity used : ℕ) (fits : less ≤ capacity) (empty : used ≡
       must = lacks.must;
       lacks = file_lacks _ lacks.file lacks.lacks;
     }
-    ask_lacks (Writes path mode agreed) lacks = lacks
+    ask_lacks ask lacks = lacks
 
 module _ {S F D : Type 0} (meaning : StoreMeaning S D) (sources : SourceMeaning F) where
   -- an admission that was not carried out, by the server whose store was set
@@ -107,11 +98,7 @@ module _ (cap count : ℕ) where
       asks_store (by_packet cap count repeated limits packet) ≡ true → count < cap
   packet_below repeated limits (Some (Read r)) asks = repeat_below repeated _ (path_of_name r.name) asks
   packet_below repeated limits (Some (Write r)) asks = repeat_below repeated _ (path_of_name r.name) asks
-  packet_below repeated limits (Some (Data block bytes)) asks = absurd (true≢false (sym asks))
-  packet_below repeated limits (Some (Ack block)) asks = absurd (true≢false (sym asks))
-  packet_below repeated limits (Some (Error code message)) asks = absurd (true≢false (sym asks))
-  packet_below repeated limits (Some (Oack options)) asks = absurd (true≢false (sym asks))
-  packet_below repeated limits None asks = absurd (true≢false (sym asks))
+  packet_below repeated limits packet asks = absurd (true≢false (sym asks))
 
   opcode_below : (is_error repeated : Bool) (limits : Limits) (packet : Option Packet) →
       asks_store (if is_error then Ignores else by_packet cap count repeated limits packet) ≡ true → count < cap
@@ -195,8 +182,7 @@ module _ {S F D : Type 0} (meaning : StoreMeaning S D) (sources : SourceMeaning 
   came_config : (came : Came S F D) (old : ServerState S F D) (from : Endpoint) (tid : ℕ) →
       (left_by came old from tid).new.config ≡ old.config
   came_config Nothing old from tid = refl
-  came_config (Error_reply reply store) old from tid = refl
-  came_config (A_transfer transfer store) old from tid = refl
+  came_config came old from tid = refl
 
   -- an admission that was carried out leaves the configuration
   pub carried_config : (old : ServerState S F D) (from : Endpoint) (bytes : List ℕ) (ask : Ask) (tid : ℕ)

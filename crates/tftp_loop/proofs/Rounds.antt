@@ -18,31 +18,16 @@ module _ {S F D : Type 0} (meaning : StoreMeaning S D) (sources : SourceMeaning 
 
   -- a round begins now
   pub begins_round : (s : LoopState S F D) → InRound s.now s
-  begins_round s = record { soon = omega arith; limit = omega arith; from = omega arith }
-
-  same_round : (since : ℕ) (s t : LoopState S F D) → t.now ≡ s.now → t.limit ≡ s.limit → InRound since s
-      → InRound since t
-  same_round since s t now limit round =
-      let soon = round.soon in
-      let most = round.limit in
-      let from = round.from in
-      record {
-        soon = omega (arith, now, soon);
-        limit = omega (arith, now, limit, most);
-        from = omega (arith, now, from);
-      }
+  begins_round s = omega arith
 
   -- the round after a wait
   pub next_round : (since : ℕ) (s t : LoopState S F D) → Waits meaning sources s t → InRound since s → InRound s.now t
   next_round since s t d round =
       let now : t.now ≡ d.watch.now = ap (λ (u : LoopState S F D). u.now) d.is in
-      let limit = ap (λ (u : LoopState S F D). u.limit) d.is in
-      let soon = d.by.soon in
-      let forward = d.by.forward in
       record {
-        soon = omega (arith, now, soon);
-        limit = omega (arith, limit);
-        from = omega (arith, now, forward);
+        soon = omega (arith, now, d.by.soon);
+        limit = omega (arith, ap (λ (u : LoopState S F D). u.limit) d.is);
+        from = omega (arith, now, d.by.forward);
       }
 
   -- a step without a wait stays within the round
@@ -51,17 +36,15 @@ module _ {S F D : Type 0} (meaning : StoreMeaning S D) (sources : SourceMeaning 
   step_round since s t (Waited d) is round = absurd is
   step_round since s t (Clock_read d) is round =
       let now : t.now ≡ d.watch.now = ap (λ (u : LoopState S F D). u.now) d.is in
-      let limit = ap (λ (u : LoopState S F D). u.limit) d.is in
-      let was = round.soon in
-      let most = round.limit in
-      let from = round.from in
-      let soon = d.by.soon in
-      let forward = d.by.forward in
       record {
-        soon = omega (arith, now, was, soon, most);
-        limit = omega (arith, limit, most);
-        from = omega (arith, now, forward, from);
+        soon = omega (arith, now, round.soon, d.by.soon, round.limit);
+        limit = omega (arith, ap (λ (u : LoopState S F D). u.limit) d.is, round.limit);
+        from = omega (arith, now, d.by.forward, round.from);
       }
   step_round since s t does is round =
-      same_round since s t (ap (λ (u : LoopState S F D). u.now) (state_is does))
-      (ap (λ (u : LoopState S F D). u.limit) (state_is does)) round
+      omega (
+        arith,
+        ap (λ (u : LoopState S F D). u.now) (state_is does),
+        ap (λ (u : LoopState S F D). u.limit) (state_is does),
+        round,
+      )

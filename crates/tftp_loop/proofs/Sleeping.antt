@@ -2,14 +2,14 @@
 use Rattle.tftp_loop.proofs.Common.{arith, ◌≡◌, ◌<◌, ◌≤◌, ◌-◌, ◌||◌, ◌&&◌, not, ℕ, zero, suc, Bool, true, false, List}
 use Rattle.tftp_loop.proofs.Common.{[], ◌∷◌, length, map, cond, Option, Some, None, refl, sym, ap, subst, ◌∙◌}
 use Rattle.tftp_loop.proofs.Common.{slice_index_or, is_some, All, ◌≢◌, list_any, SourceMeaning, StoreMeaning}
-use Rattle.tftp_loop.proofs.Common.{ServerState, LONGEST_WAIT, SocketEvent, Watched, is_among, is_drained, Run, Start}
-use Rattle.tftp_loop.proofs.Common.{Then, LoopConfig, Timer, LoopState, LoopStep, Waits, at_start, port_state, set_by}
-use Rattle.tftp_loop.proofs.Common.{until_look, Waited, At_port, Request_received, No_request_found}
-use Rattle.tftp_loop.proofs.Common.{Request_not_received, Request_noted, Request_answered, Clock_read, is_draining}
-use Rattle.tftp_loop.proofs.Common.{reads_requests, Work_by, AreKept}
+use Rattle.tftp_loop.proofs.Common.{LONGEST_WAIT, Watched, is_among, is_drained, Run, Start, Then, Timer, LoopState}
+use Rattle.tftp_loop.proofs.Common.{LoopStep, at_start, port_state, set_by, until_look, Waited, At_port}
+use Rattle.tftp_loop.proofs.Common.{Request_received, No_request_found, Request_not_received, Request_noted}
+use Rattle.tftp_loop.proofs.Common.{Request_answered, Clock_read, is_draining, reads_requests, Work_by, AreKept}
+use Rattle.tftp_loop.proofs.Common.{IsNoWait, KeepsTries}
 use Rattle.tftp_loop.specs.Steps.{is_busy, read_at}
-use Rattle.tftp_loop.specs.Sleeps.{MaySleep}
-use Rattle.tftp_loop.proofs.OwnPorts.{HasItsOwnPort, has_its_own_port}
+use Rattle.tftp_loop.specs.Sleeps.{RestsBeforeItSleeps}
+use Rattle.tftp_loop.proofs.OwnPorts.{others_along}
 use Rattle.tftp_loop.proofs.Drained.{port_drained, replied_drained}
 use Rattle.tftp_loop.proofs.Looking.{AreLooked, looked_at_rest, read_looked, step_looked}
 use Rattle.tftp_loop.proofs.LoopStays.{work_keeps}
@@ -65,35 +65,42 @@ module _ {S F D : Type 0} (meaning : StoreMeaning S D) (sources : SourceMeaning 
   pub step_kept : (s t : LoopState S F D) → LoopStep meaning sources s t → AreKept s.server.held s.timers →
       AreKept t.server.held t.timers
   step_kept s t (Waited d) kept =
-      subst (λ (u : LoopState S F D). AreKept u.server.held u.timers) (sym d.is)
-      (waited_kept s.server.held d.watch.now d.ports s.timers kept)
-  step_kept s t (Clock_read d) kept = subst (λ (u : LoopState S F D). AreKept u.server.held u.timers) (sym d.is) kept
+      rw (d.is) (waited_kept s.server.held d.watch.now d.ports s.timers kept)
+  step_kept s t (Clock_read d) kept = rw (d.is) kept
   step_kept s t does kept = (work_keeps meaning sources s t (Then Start (Work_by does tt))).kept kept
 
-  -- each state of a run has them
-  pub kept_along : (config : LoopConfig) (port reading : ℕ) (server : ServerState S F D) (before : List SocketEvent)
-      (old : LoopState S F D) → Run (LoopStep meaning sources) (at_start config port server reading before) old
-      → AreKept old.server.held old.timers
-  kept_along config port reading server before old Start =
-      record { apart = λ j k d e hj hk h. absurd (omega (arith, hj)); each = λ k d h. absurd (omega (arith, h)) }
-  kept_along config port reading server before old (Then {middle} run does) =
-      step_kept middle old does (kept_along config port reading server before middle run)
+  -- one that is no wait keeps what was read
+  pub step_tries : (s t : LoopState S F D) (does : LoopStep meaning sources s t) → IsNoWait meaning sources does
+      → KeepsTries s.events t.events
+  step_tries s t (Waited d) is = absurd is
+  step_tries s t (Clock_read d) is = rw (d.is) (λ q h. h)
+  step_tries s t does is = (work_keeps meaning sources s t (Then Start (Work_by does tt))).tries
 
-  quiet_along : (config : LoopConfig) (port reading : ℕ) (server : ServerState S F D) (before : List SocketEvent)
-      (old : LoopState S F D) → Run (LoopStep meaning sources) (at_start config port server reading before) old
-      → HasItsOwnPort meaning sources (at_start config port server reading before) old → IsQuiet old
-  quiet_along config port reading server before old Start own = record {
-    drained = λ m. not_marked m;
-    kept = record { apart = λ j k d e hj hk h. absurd (omega (arith, hj)); each = λ k d h. absurd (omega (arith, h)) };
-    looked = λ k d h. absurd (omega (arith, h));
-  }
-  quiet_along config port reading server before old (Then {middle} run does) own =
-      let was = quiet_along config port reading server before middle run (λ now begins ends. own now begins (Then ends does)) in
+  -- each state of a run has them
+  pub kept_along : (start old : LoopState S F D) → start.timers ≡ [] → Run (LoopStep meaning sources) start old
+      → AreKept old.server.held old.timers
+  kept_along start old empty Start =
+      let none : length start.timers ≡ 0 = ap (λ (ts : List Timer). length ts) empty in
       record {
-        drained = step_drained middle old does (own middle run (Then Start does)) was.drained;
+        apart = λ j k d e hj hk h. absurd (omega (arith, hj, none));
+        each = λ k d h. absurd (omega (arith, h, none));
+      }
+  kept_along start old empty (Then {middle} run does) = step_kept middle old does (kept_along start middle empty run)
+
+  quiet_along : (start old : LoopState S F D) → start.timers ≡ [] → start.marked ≡ true
+      → Run (LoopStep meaning sources) start old → IsQuiet old
+  quiet_along start old empty marked Start = record {
+    drained = λ m. not_marked (sym marked ∙ m);
+    kept = kept_along start start empty Start;
+    looked = rw empty (λ k d h. absurd (omega (arith, h)));
+  }
+  quiet_along start old empty marked (Then {middle} run does) =
+      let was = quiet_along start middle empty marked run in
+      let others = others_along meaning sources start middle empty run in
+      record {
+        drained = step_drained middle old does others was.drained;
         kept = step_kept middle old does was.kept;
-        looked = step_looked meaning sources middle old does
-            (own middle run (Then Start does)) was.kept.apart was.looked;
+        looked = step_looked meaning sources middle old does others was.kept.apart was.looked;
       }
 
 -- ---- at a wait
@@ -144,13 +151,9 @@ look_longest now (timer ∷ timers) = let rest = look_longest now timers in omeg
 
 module _ {S F D : Type 0} (meaning : StoreMeaning S D) (sources : SourceMeaning F) where
   -- a server that may sleep has no datagram to read, no timeout due and no file work
-  pub rests_before_it_sleeps : (config : LoopConfig) (port reading : ℕ) (server : ServerState S F D) (before : List SocketEvent)
-      (old new : LoopState S F D) → Run (LoopStep meaning sources) (at_start config port server reading before) old →
-      (waits : Waits meaning sources old new) → 1 ≤ waits.millis →
-      MaySleep meaning sources (read_at waits.watch old) waits.millis
+  pub rests_before_it_sleeps : RestsBeforeItSleeps meaning sources
   rests_before_it_sleeps config port reading server before old new run waits some =
-      let was = quiet_along meaning sources config port reading server before old run
-      (has_its_own_port meaning sources config port reading server before old) in
+      let was = quiet_along meaning sources (at_start config port server reading before) old refl refl run in
       let set = map (set_by waits.watch.now) old.timers in
       let until = until_look waits.watch.now set in
       let longest = waits.may.longest in

@@ -1,12 +1,11 @@
 -- A visit that did not close its transfer left it open. For five functions.
 use Rattle.tftp_loop.proofs.Common.{◌≡◌, ◌⊎◌, ℕ, Bool, true, false, List, Option, Some, None, refl, sym, ap, subst, ◌∙◌}
 use Rattle.tftp_loop.proofs.Common.{arith, inl, inr, ◌<◌, ◌≤◌, ◌+◌, length, map, is_some, IfSome, if◌then◌else◌}
-use Rattle.tftp_loop.proofs.Common.{slice_set, slice_index_or, is_at, nat_cmp, cases_eq, SourceMeaning, Endpoint}
-use Rattle.tftp_loop.proofs.Common.{Outcome, Step, EndState, outcome_of, record_of, StoreMeaning, TransferState}
-use Rattle.tftp_loop.proofs.Common.{ServerState, at, draft_of, is_closed, taken_of, KeepsHeld, with_end, Port}
-use Rattle.tftp_loop.proofs.Common.{SocketEvent, ServerLoop, TransferSocket, timer_of, AwaitVisit, WereVisited, IsHeld}
-use Rattle.tftp_loop.proofs.Common.{IsOpen, IsSettled, IsUnclosed, ReceivedFew, before_visit, timers_of, Timer}
-use Rattle.tftp_loop.proofs.Common.{WorksAtPort}
+use Rattle.tftp_loop.proofs.Common.{slice_set, slice_index_or, cases_eq, SourceMeaning, Endpoint, Step, EndState}
+use Rattle.tftp_loop.proofs.Common.{outcome_of, record_of, StoreMeaning, TransferState, ServerState, at, draft_of}
+use Rattle.tftp_loop.proofs.Common.{is_closed, taken_of, KeepsHeld, with_end, Port, SocketEvent, ServerLoop}
+use Rattle.tftp_loop.proofs.Common.{TransferSocket, timer_of, AwaitVisit, WereVisited, IsHeld, IsOpen, IsSettled}
+use Rattle.tftp_loop.proofs.Common.{IsUnclosed, ReceivedFew, before_visit, timers_of, Timer, WorksAtPort}
 use Rattle.tftp_ends.specs.declared.outgoing.Outgoing.{Outgoing}
 use Rattle.tftp_server.specs.Steps.{TakesDatagramLent, TimesOutLent}
 use Rattle.tftp_loop.specs.declared.port_visit.PortStatus.{PortStatus}
@@ -16,34 +15,25 @@ use Rattle.tftp_loop.specs.declared.port_visit.Pass.TheVariants as passes
 use Rattle.tftp_loop.specs.MayWait.{IsNotVisited, WasVisited}
 use Rattle.tftp_loop.specs.MayWait.{IsUnclosedBy, UnlessClosed}
 use Rattle.tftp_loop.proofs.ListLemmas.{map_is, map_set, map_within}
-use Rattle.tftp_loop.proofs.PortLemmas.{found_next, found_timed, set_found}
-use Rattle.tftp_loop.proofs.Tables.{any_default, not_taken, set_own}
+use Rattle.tftp_loop.proofs.PortLemmas.{found_next, found_timed}
+use Rattle.tftp_loop.proofs.Tables.{any_default, next_found, not_taken, set_own}
 use Rattle.tftp_loop.proofs.Visits.{works_unclosed}
 
 -- ---- unless the status is that it closed
 -- what holds in any case holds unless it closed
 pub unless_all : {P : Type 0} (status : PortStatus) → P → UnlessClosed status P
-unless_all statuses.Empty h = h
-unless_all statuses.Onward h = h
-unless_all statuses.Unfinished h = h
 unless_all statuses.Closed h = tt
+unless_all status h = h
 
 -- what follows unless a transfer closed may be replaced by what follows from it
 pub unless_map : {P Q : Type 0} (status : PortStatus) → (P → Q) → UnlessClosed status P → UnlessClosed status Q
-unless_map statuses.Empty f h = f h
-unless_map statuses.Onward f h = f h
-unless_map statuses.Unfinished f h = f h
 unless_map statuses.Closed f h = tt
+unless_map status f h = f h
 
 -- it holds if the status is not that it closed
 pub unless_not : {P : Type 0} (status : PortStatus) → (status ≡ statuses.Closed → ⊥) → UnlessClosed status P → P
-unless_not statuses.Empty apart h = h
-unless_not statuses.Onward apart h = h
-unless_not statuses.Unfinished apart h = h
 unless_not statuses.Closed apart h = absurd (apart refl)
-
-no_outcome : (o : Option Outcome) → o ≡ None → is_some o ≡ false
-no_outcome o e = ap is_some e
+unless_not status apart h = h
 
 module _ {F D : Type 0} where
   -- a transfer that is open cannot be taken
@@ -60,23 +50,21 @@ module _ {S F D : Type 0} (meaning : StoreMeaning S D) (sources : SourceMeaning 
       (takes : TakesDatagramLent meaning sources tid from bytes old new step outgoing)
       → step.closed ≡ None → IsUnclosed port new.held
   open_by port from bytes same takes none =
-      let At : ℕ → Type 0 = λ p. IsUnclosed p new.held in
-      subst At same
+      rw (← same)
       (open_untaken (at tid new.held) takes.next
       (found_next meaning sources tid old new step outgoing from bytes takes)
       (ap (λ (e : EndState). is_some (outcome_of e.position.phase)) takes.takes.carries.state
-      ∙ sym (ap (λ (s : Step). is_some s.closed) takes.takes.reports) ∙ no_outcome step.closed none))
+      ∙ sym (ap (λ (s : Step). is_some s.closed) takes.takes.reports) ∙ ap is_some none))
 
 module _ {S F D : Type 0} (tid : ℕ) (old new : ServerState S F D) (step : Step) (outgoing : Outgoing) where
   -- nor by its timeout
   pub open_timed : (port : ℕ) → tid ≡ port → (t : TimesOutLent tid old.held new.held step outgoing) →
       step.closed ≡ None → IsUnclosed port new.held
   open_timed port same t none =
-      let At : ℕ → Type 0 = λ p. IsUnclosed p new.held in
-      subst At same
+      rw (← same)
       (open_untaken (at tid new.held) (with_end t.end t.transfer) (found_timed tid old new step outgoing t)
       (ap (λ (e : EndState). is_some (outcome_of e.position.phase)) t.carries.state
-      ∙ sym (ap (λ (s : Step). is_some s.closed) t.reports) ∙ no_outcome step.closed none))
+      ∙ sym (ap (λ (s : Step). is_some s.closed) t.reports) ∙ ap is_some none))
 
 module _ {S F D : Type 0} (meaning : StoreMeaning S D) (sources : SourceMeaning F) where
   -- a datagram that was lost left it open
@@ -89,16 +77,14 @@ module _ {S F D : Type 0} (meaning : StoreMeaning S D) (sources : SourceMeaning 
       let still =
       not_taken (is_closed transfer) (record_of transfer.end, draft_of transfer.files)
       (ap (λ (p : Option (TransferState F D)). taken_of p) (sym found) ∙ unclosed) in
-      open_untaken (at port new.held) next
-      (ap (at port) keeps.2 ∙ set_found (is_at (nat_cmp port)) transfer next old.held found)
+      open_untaken (at port new.held) next (next_found port old.held new.held transfer next found keeps.2)
       (ap (λ (e : EndState). is_some (outcome_of e.position.phase)) keeps.1.end ∙ still)
 
   -- a datagram that is lost leaves the transfer open
   pub lost_open : (tid port : ℕ) (old new : ServerState S F D) → tid ≡ port →
       KeepsHeld meaning sources tid (at tid old.held) old new → IsUnclosed port old.held → IsUnclosed port new.held
   lost_open tid port old new same keeps =
-      let At : ℕ → Type 0 = λ p. IsUnclosed p old.held → IsUnclosed p new.held in
-      subst At same (keeps_open tid (at tid old.held) old new refl keeps)
+      rw (← same) (keeps_open tid (at tid old.held) old new refl keeps)
 
   -- file work after a step leaves it open
   pub open_after : (port : ℕ) (middle new : ServerState S F D) →

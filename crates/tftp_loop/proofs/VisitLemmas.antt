@@ -47,12 +47,10 @@ module _ {N S F D : Type 0} where
         ServesVisit log meaning sources n b c → ServesVisit log meaning sources most a c
     serves_onward m n most a b c fits x y =
         let At : ℕ → Type 0 = λ now. Run (PortStep meaning sources now) (at_visit log b) (at_visit log c) in
-        let before = x.received in
-        let after = y.received in
         record {
           same = same_onward x.same y.same;
           serves = onward x.serves (subst At x.same.now y.serves);
-          received = omega (arith, fits, before, after);
+          received = omega (arith, fits, x.received, y.received);
         }
 
     -- a datagram was received, and then answered
@@ -63,7 +61,6 @@ module _ {N S F D : Type 0} where
         ServesVisit log meaning sources 1 old new
     serves_received datagram old new net name noted answers =
         let one : received_in (log net.now) ≡ 1 + received_in (log old.net.now) = ap received_in noted in
-        let none = answers.received in
         record {
           same =
               record {
@@ -74,7 +71,7 @@ module _ {N S F D : Type 0} where
                 active = answers.same.active;
               };
           serves = answers.serves (log old.net.now) noted;
-          received = omega (arith, one, none);
+          received = omega (arith, one, answers.received);
         }
 
     -- and so the port was read

@@ -1,14 +1,13 @@
 -- A visit of a port, and what it leaves if its transfer closed and if not. For `ServerLoop::finish`,
 -- `ServerLoop::sync`, `ServerLoop::visit`, Reporting and Unclosed.
-use Rattle.tftp_loop.proofs.Common.{arith, ◌≡◌, ◌<◌, ◌≤◌, ◌+◌, ◌-◌, ℕ, Bool, true, false, List, [], length, map, Option}
-use Rattle.tftp_loop.proofs.Common.{Some, None, IsSome, refl, sym, ap, subst, ◌∙◌, inl, inr, slice_set, slice_index_or}
-use Rattle.tftp_loop.proofs.Common.{is_some, option_map, if◌then◌else◌, is_at, nat_cmp, cases_eq, swap_remove}
-use Rattle.tftp_loop.proofs.Common.{none-some, SourceMeaning, StoreMeaning, Record, record_of, TransferState}
-use Rattle.tftp_loop.proofs.Common.{ServerState, at, draft_of, is_closed, taken_of, without, WorksAt, SocketEvent, Port}
-use Rattle.tftp_loop.proofs.Common.{TransferSocket, Timer, PortState, LoopState, WorksAtPort, Transfer_closed}
-use Rattle.tftp_loop.proofs.Common.{ServerLoop, Work_by, state_of, timer_of, MOST_AT_ONCE, AwaitVisit, ReceivedFew}
-use Rattle.tftp_loop.proofs.Common.{before_visit, AreKept, AreSettled, WereVisited, IsOpen, IsRead, IsSettled, IsTimed}
-use Rattle.tftp_loop.proofs.Common.{KeepsTries, timers_of}
+use Rattle.tftp_loop.proofs.Common.{arith, ◌≡◌, ◌<◌, ◌≤◌, ◌+◌, ◌-◌, ℕ, Bool, false, List, [], length, map, Option, Some}
+use Rattle.tftp_loop.proofs.Common.{None, IsSome, refl, sym, ap, subst, ◌∙◌, inl, inr, slice_set, slice_index_or}
+use Rattle.tftp_loop.proofs.Common.{is_some, option_map, if◌then◌else◌, cases_eq, swap_remove, SourceMeaning}
+use Rattle.tftp_loop.proofs.Common.{StoreMeaning, Record, record_of, TransferState, ServerState, at, draft_of}
+use Rattle.tftp_loop.proofs.Common.{is_closed, taken_of, without, WorksAt, SocketEvent, Port, TransferSocket, Timer}
+use Rattle.tftp_loop.proofs.Common.{PortState, LoopState, WorksAtPort, Transfer_closed, ServerLoop, Work_by, state_of}
+use Rattle.tftp_loop.proofs.Common.{timer_of, MOST_AT_ONCE, AwaitVisit, ReceivedFew, before_visit, AreKept, AreSettled}
+use Rattle.tftp_loop.proofs.Common.{WereVisited, IsOpen, IsRead, IsSettled, IsTimed, KeepsTries, timers_of}
 use Rattle.tftp_loop.specs.Steps.{Closes}
 use Rattle.tftp_loop.specs.declared.port_visit.Pass.{Pass}
 use Rattle.tftp_loop.specs.declared.port_visit.Pass.TheVariants as passes
@@ -20,10 +19,9 @@ use Rattle.tftp_loop.specs.MayWait.{leaves_timed}
 use Rattle.tftp_loop.proofs.ListLemmas.{map_is, map_removed, map_set, map_within, set_long}
 use Rattle.tftp_loop.proofs.LoopRuns.{Runs, at_index, closes, none_taken}
 use Rattle.tftp_loop.proofs.LoopStays.{all_removed, all_set, other_held, other_port, removed_held, set_kept}
-use Rattle.tftp_loop.proofs.PortLemmas.{set_found}
 use Rattle.tftp_loop.proofs.PortStays.{StaysAt, stays_along, works_held}
 use Rattle.tftp_loop.proofs.RunLemmas.{idle, once, onward}
-use Rattle.tftp_loop.proofs.Tables.{any_default, removed_apart, set_other, set_own, was_at}
+use Rattle.tftp_loop.proofs.Tables.{any_default, next_found, not_taken, removed_apart, set_other, set_own, was_at}
 use Rattle.tftp_loop.proofs.Counting.{counted_along}
 
 -- a visit begins with few datagrams received
@@ -130,17 +128,14 @@ module _ {S F D : Type 0} (meaning : StoreMeaning S D) (sources : SourceMeaning 
       λ e. other_port (timers_of old) index was k d settled.kept.apart within is_timer h apart
       (e ∙ (ap (λ (u : Timer). u.port) own ∙ stays.port)) in
       ap (λ (o : Option (TransferState F D)). taken_of o)
-      (removed_apart closes.timer.port t.port middle.server.held other) ∙ others_open settled k d h apart)
+      (removed_apart closes.timer.port t.port other middle.server.held) ∙ others_open settled k d h apart)
       closes same k d (omega arith) h
-
-  settled_by : (d : ServerLoop S F D) → new ≡ d → IsSettled d → IsSettled new
-  settled_by d e h = subst (λ (n : ServerLoop S F D). IsSettled n) (sym e) h
 
   -- a visit leaves every transfer settled
   pub visit_settled : IsSettled old → IsSettled new
   visit_settled settled = elim finishes [
     | Stays e noted unclosed ↦
-        settled_by middle e (record {
+        subst (λ (n : ServerLoop S F D). IsSettled n) (sym e) (record {
           kept = subst (AreKept middle.server.held) (sym timers) (kept_middle settled.kept);
           none_closed = λ k d h.
               after_stay (IsOpen middle.server.held) 0 (λ k d l h apart. others_open settled k d h apart)
@@ -149,19 +144,13 @@ module _ {S F D : Type 0} (meaning : StoreMeaning S D) (sources : SourceMeaning 
     | Goes each ↦
         let closes = (each []).0 in
         let same = (each []).1 in
-        let held = ap (λ (s : LoopState S F D). s.server.held) closes.is in
-        let kept_old : AreKept middle.server.held (timers_of middle) =
-        subst (AreKept middle.server.held) (sym timers) (kept_middle settled.kept) in
-        let kept_new =
-        removed_held meaning sources middle.server.held (timers_of middle) closes.index closes.timer closes.within
-        closes.is_timer kept_old in
-        let AtHeld : List (ℕ × TransferState F D) → Type 0 =
-        λ hs. AreKept hs (swap_remove (timers_of middle) closes.index closes.timer) in
+        let held : new.server.held ≡ without closes.timer.port middle.server.held =
+        ap (λ (s : LoopState S F D). s.server.held) closes.is in
         record {
-          kept = subst (AreKept new.server.held) (sym (closed_timers closes)) (subst AtHeld (sym held) kept_new);
-          none_closed = λ k d h.
-              subst (λ (hs : List (ℕ × TransferState F D)). IsOpen hs (slice_index_or (timers_of new) k d)) (sym held)
-              (removed_open closes same settled k d h);
+          kept = rw (held, closed_timers closes) (removed_held meaning sources middle.server.held (timers_of middle)
+              closes.index closes.timer closes.within closes.is_timer
+              (subst (AreKept middle.server.held) (sym timers) (kept_middle settled.kept)));
+          none_closed = λ k d h. rw held (removed_open closes same settled k d h);
         }
   ]
 
@@ -224,18 +213,9 @@ module _ {S F D : Type 0} (meaning : StoreMeaning S D) (sources : SourceMeaning 
 
   visit_runs : (buffer : List ℕ) → Runs meaning sources (state_of buffer old es) (state_of buffer middle ms)
   visit_runs buffer =
-      let At : List (Port TransferSocket) → Type 0 =
-      λ ps. Runs meaning sources (state_of buffer old es)
-      (record (state_of buffer old es) {
-        server = middle.server;
-        timers = map timer_of ps;
-        events = ms;
-      }) in
-      subst (λ (d : ServerLoop S F D). Runs meaning sources (state_of buffer old es) (state_of buffer d ms))
-      (sym visits.rest)
-      (subst At (sym visits.items)
+      rw (visits.rest, visits.items)
       (at_index meaning sources (state_of buffer old es) old.ports.items index visits.port visits.next middle.server
-      ms refl visits.within visits.is_port visits.serves))
+      ms refl visits.within visits.is_port visits.serves)
 
   finish_runs : (buffer : List ℕ) → Runs meaning sources (state_of buffer middle ms) (state_of buffer new ns)
   finish_runs buffer = elim finishes [
@@ -255,8 +235,7 @@ module _ {S F D : Type 0} (meaning : StoreMeaning S D) (sources : SourceMeaning 
       → (timer_of takes.port).received ≤ most → (timer_of takes.next).received ≤ most + MOST_AT_ONCE
   few_next most index old middle leaves takes began =
       let all = counted_along meaning sources old.sockets.watch.now _ _ takes.serves in
-      let few = takes.few in
-      omega (arith, all, few, began)
+      omega (arith, all, takes.few, began)
 
 module _ {S F D : Type 0} (meaning : StoreMeaning S D) (sources : SourceMeaning F) {index : ℕ}
     {old middle new : ServerLoop S F D} {es ms ns : List SocketEvent} where
@@ -297,10 +276,6 @@ module _ {S F D : Type 0} (meaning : StoreMeaning S D) (sources : SourceMeaning 
   visited_after passes.Due takes finishes waiting visited =
       λ k d l h. timed_after takes finishes (λ k d l h. visited k d l h) k d l h
 
-not_taken : {X : Type 0} (b : Bool) (x : X) → (if b then Some x else None) ≡ None → b ≡ false
-not_taken true x e = absurd (none-some x (sym e))
-not_taken false x e = refl
-
 module _ {S F D : Type 0} (meaning : StoreMeaning S D) (sources : SourceMeaning F) where
   -- a file that works leaves its transfer unclosed
   pub works_unclosed : (port : ℕ) (o : Option (TransferState F D)) (old new : ServerState S F D) →
@@ -311,8 +286,7 @@ module _ {S F D : Type 0} (meaning : StoreMeaning S D) (sources : SourceMeaning 
       ap (λ (s : ServerState S F D). taken_of (at port s.held)) works ∙ unclosed
   works_unclosed port (Some transfer) old new found works unclosed =
       let next = works.0 in
-      let now_found : at port new.held ≡ Some next =
-      ap (at port) works.2 ∙ set_found (is_at (nat_cmp port)) transfer next old.held found in
+      let now_found = next_found port old.held new.held transfer next found works.2 in
       let still =
       not_taken (is_closed transfer) (record_of transfer.end, draft_of transfer.files)
       (ap (λ (p : Option (TransferState F D)). taken_of p) (sym found) ∙ unclosed) in
@@ -391,12 +365,7 @@ module _ {S F D : Type 0} (meaning : StoreMeaning S D) (sources : SourceMeaning 
       let timers : timers_of new ≡ swap_remove (timers_of old) index (timer_of port) =
       ap (map timer_of) items ∙ map_removed timer_of old.ports.items index port in
       Goes (λ buffer.
-      let s = state_of buffer old es in
-      let At : LoopState S F D → Type 0 = λ t. (closes : Closes meaning sources s t) × (closes.index ≡ index) in
-      let AtTimers : List Timer → Type 0 =
-      λ ts. At (record s { server = new.server; timers = ts; left = s.left - 1; events = ns }) in
-      subst At (sym (ap (λ (d : ServerLoop S F D). state_of buffer d ns) is))
-      (subst AtTimers (sym timers)
-      (closes meaning sources s index (timer_of port) tid closed new.server ns left
+      rw (is, timers)
+      (closes meaning sources (state_of buffer old es) index (timer_of port) tid closed new.server ns left
       (map_within timer_of old.ports.items index inside)
-      (map_is timer_of old.ports.items index port is_port) same found some held rest events)))
+      (map_is timer_of old.ports.items index port is_port) same found some held rest events))

@@ -1,22 +1,20 @@
 -- A wait, and when it is allowed. For four functions and eight other files.
-use Rattle.tftp_loop.proofs.Common.{arith, ◌≡◌, ◌<◌, ◌≤◌, ◌-◌, ◌||◌, ◌&&◌, not, ◌⊎◌, ◌+◌, ◌++◌, ℕ, zero, suc, Bool}
-use Rattle.tftp_loop.proofs.Common.{List, [], ◌∷◌, length, map, take, drop, min, max, true, false, Option, Some, None}
-use Rattle.tftp_loop.proofs.Common.{IsSome, refl, sym, ap, subst, ◌∙◌, inl, inr, cond, slice_index_or, is_some, All}
-use Rattle.tftp_loop.proofs.Common.{◌≢◌, list_any, SourceMeaning, Endpoint, StoreMeaning, TransferState, ServerState}
-use Rattle.tftp_loop.proofs.Common.{at, taken_of, last_moment, Watch, LONGEST_WAIT, Port, SocketEvent, Watched, Quiet}
-use Rattle.tftp_loop.proofs.Common.{is_among, TransferSocket, ServerLoop, Run, Start, Then, Timer, LoopState, LoopStep}
-use Rattle.tftp_loop.proofs.Common.{deadline_by, marked_by, is_draining, round_end, set_by, until_look, Waited}
-use Rattle.tftp_loop.proofs.Common.{Clock_read, pending_in, state_of, timer_of, AreSettled, AreKept, HasRead, IsHeld}
-use Rattle.tftp_loop.proofs.Common.{IsSettled, IsTended, ReceivedFew, timers_of, woken_if, length-map}
+use Rattle.tftp_loop.proofs.Common.{arith, ◌≡◌, ◌<◌, ◌≤◌, ◌-◌, ◌||◌, ◌⊎◌, ◌+◌, ◌++◌, ℕ, zero, suc, Bool, List, [], ◌∷◌}
+use Rattle.tftp_loop.proofs.Common.{length, map, take, drop, min, true, false, Option, Some, None, IsSome, refl, sym}
+use Rattle.tftp_loop.proofs.Common.{ap, subst, ◌∙◌, slice_index_or, is_some, All, ◌≢◌, list_any, SourceMeaning}
+use Rattle.tftp_loop.proofs.Common.{Endpoint, StoreMeaning, TransferState, at, last_moment, LONGEST_WAIT, Port}
+use Rattle.tftp_loop.proofs.Common.{SocketEvent, Watched, Quiet, is_among, TransferSocket, ServerLoop, Run, Start, Then}
+use Rattle.tftp_loop.proofs.Common.{Timer, LoopState, LoopStep, deadline_by, marked_by, round_end, set_by, until_look}
+use Rattle.tftp_loop.proofs.Common.{Waited, Clock_read, pending_in, state_of, timer_of, AreSettled, AreKept, HasRead}
+use Rattle.tftp_loop.proofs.Common.{IsHeld, IsSettled, IsTended, ReceivedFew, timers_of, woken_if, length-map}
 use Rattle.std.proofs.Common.{get_or, set}
-use Rattle.tftp_sockets.specs.Watch.{later_within, wait_of}
+use Rattle.tftp_sockets.specs.Watch.{wait_of}
 use Rattle.tftp_sockets.specs.Trace.QuietEvent.{Slept, Woke}
 use Rattle.tftp_loop.specs.Steps.{MayWait, IsServed, most_millis, read_at}
 use Rattle.tftp_loop.specs.MayWait.{HasSlept, HasWoken, HasFew, millis_of, reads_of}
-use Rattle.tftp_loop.specs.declared.drain.Drain.{Drain}
-use Rattle.tftp_loop.proofs.ListLemmas.{map_at}
+use Rattle.std.proofs.lemmas.List.{get_or-map}
+use Rattle.std.proofs.lemmas.List.Elements.{All-map}
 use Rattle.tftp_loop.proofs.LoopRuns.{same_state}
-use Rattle.tftp_loop.proofs.Tables.{any_default}
 use Rattle.std.proofs.lemmas.Grind.{common_steps}
 use Rattle.std.proofs.lemmas.List.Edits.{map_over_more}
 
@@ -50,23 +48,7 @@ pub pending_same : (pending : Option (Endpoint × ℕ)) (buffer : List ℕ) →
 pending_same None buffer = refl
 pending_same (Some p) buffer = refl
 
-shortest_by : {P : Type 0} (m n : ℕ) → n ≡ m → (m ≡ 0) ⊎ P → (n ≡ 0) ⊎ P
-shortest_by m n e (inl h) = inl (e ∙ h)
-shortest_by m n e (inr h) = inr h
-
 module _ {S F D : Type 0} where
-  -- how long a wait may be at most, in the state and in the loop
-  pub millis_same : (buffer : List ℕ) (d : ServerLoop S F D) (events : List SocketEvent) →
-      most_millis (state_of buffer d events) ≡ millis_of d
-  millis_same buffer d events =
-      ap (λ (p : Bool). cond (reads_of d || (p || list_any (λ (timer : Timer). timer.marked) (timers_of d))) 0
-      (until_look d.sockets.watch.now (timers_of d))) (pending_same d.pending buffer)
-      ∙ (ap (λ (a : Bool). cond (reads_of d || (is_some d.pending || a)) 0
-      (until_look d.sockets.watch.now (timers_of d))) (any_mapped d.ports.items)
-      ∙ ap (λ (n : ℕ). cond (reads_of d ||
-      (is_some d.pending || list_any (λ (port : Port TransferSocket). port.is_ready) d.ports.items)) 0 n)
-      (looks_mapped d.sockets.watch.now d.ports.items))
-
   -- all is done that is to be done
   served : (buffer : List ℕ) (d : ServerLoop S F D) (events : List SocketEvent) → IsTended d events →
       All (IsServed (state_of buffer d events)) (timers_of d)
@@ -85,22 +67,22 @@ module _ {S F D : Type 0} where
       most_millis (read_at read.sockets.watch (state_of buffer d before)) ≡ millis_of read
   read_millis buffer d read before after r =
       let time = read.sockets.watch.now in
-      let Millis : Bool → Option (Endpoint × ℕ) → Bool → ℕ → ℕ =
-      λ requests pending marked n. cond (requests || (is_some (pending_in pending buffer) || marked)) 0 n in
-      let any : List (Port TransferSocket) → Bool =
-      λ ports. list_any (λ (timer : Timer). timer.marked) (map timer_of ports) in
-      let until : List (Port TransferSocket) → ℕ = λ ports. until_look time (map timer_of ports) in
-      let reads : reads_of d ≡ reads_of read =
-      ap (λ (drain : Drain). not (is_draining drain) && d.sockets.is_ready) (sym r.drain)
-      ∙ ap (λ (b : Bool). not (is_draining read.drain) && b) (sym r.marked) in
-      ap (λ (b : Bool). Millis (reads_of d) d.pending b
-      (until_look time (map (set_by time) (timers_of d)))) (set_any time (timers_of d))
-      ∙ (ap (λ (n : ℕ). Millis (reads_of d) d.pending (any d.ports.items) n) (set_until time time (timers_of d))
-      ∙ (ap (λ (b : Bool). Millis b d.pending (any d.ports.items) (until d.ports.items)) reads
-      ∙ (ap (λ (p : Option (Endpoint × ℕ)). Millis (reads_of read) p (any d.ports.items) (until d.ports.items))
-      (sym r.pending)
-      ∙ (ap (λ (ps : List (Port TransferSocket)). Millis (reads_of read) read.pending (any ps) (until ps))
-      (sym r.ports) ∙ millis_same buffer read after))))
+      let drain : read.drain ≡ d.drain = ap (λ (e : ServerLoop S F D). e.drain) r.rest in
+      let marked : read.sockets.is_ready ≡ d.sockets.is_ready =
+      ap (λ (e : ServerLoop S F D). e.sockets.is_ready) r.rest in
+      let pending : read.pending ≡ d.pending = ap (λ (e : ServerLoop S F D). e.pending) r.rest in
+      let ports : read.ports.items ≡ d.ports.items = ap (λ (e : ServerLoop S F D). e.ports.items) r.rest in
+      rw (
+        drain,
+        marked,
+        pending,
+        ports,
+        set_any time (timers_of d),
+        set_until time time (timers_of d),
+        pending_same d.pending buffer,
+        any_mapped d.ports.items,
+        looks_mapped time d.ports.items,
+      ) refl
 
   -- a loop that was tended may wait
   pub may_wait : (buffer : List ℕ) (d read : ServerLoop S F D) (before after : List SocketEvent) (millis : ℕ)
@@ -120,7 +102,7 @@ module _ {S F D : Type 0} where
             λ h. tended.requests (ap (λ (b : Bool). reads_of d || b) (sym (pending_same d.pending buffer)) ∙ h);
         transfers = served buffer d before tended;
         longest = omega (arith, longest, same);
-        shortest = λ h. shortest_by (millis_of read) (most_millis (read_at watch (state_of buffer d before))) same (shortest h);
+        shortest = λ h. rw same (shortest h);
       }
 
 -- ---- marks, one by one
@@ -150,28 +132,23 @@ timers_woken time reported (port ∷ ports) =
 -- an element of a mapped list is mapped
 pub mapped_at : (f : Timer → Timer) (timers : List Timer) (k : ℕ) (d : Timer) → k < length timers →
     slice_index_or (map f timers) k d ≡ f (slice_index_or timers k d)
-mapped_at f timers k d h =
-    let e = length-map timers f in
-    any_default (map f timers) k d (f d) (omega (arith, e, h)) ∙ map_at f timers k d
+mapped_at f timers k d h = get_or-map f timers k d d h
 
 -- what a wait does to the timers it does to each
 pub waited_at : (time : ℕ) (ports : List ℕ) (timers : List Timer) (k : ℕ) (d : Timer) → k < length timers →
     slice_index_or (map (marked_by ports) (map (set_by time) timers)) k d
     ≡ marked_by ports (set_by time (slice_index_or timers k d))
 waited_at time ports timers k d h =
-    let e = length-map timers (set_by time) in
-    mapped_at (marked_by ports) (map (set_by time) timers) k d (omega (arith, e, h))
+    mapped_at (marked_by ports) (map (set_by time) timers) k d (omega (arith, length-map timers (set_by time), h))
     ∙ ap (marked_by ports) (mapped_at (set_by time) timers k d h)
 
 -- what holds of each timer after a wait holds of all
 pub all_waited : (Q : Timer → Type 0) (time : ℕ) (ports : List ℕ) (timers : List Timer) →
     All (λ (timer : Timer). Q (marked_by ports (set_by time timer))) timers →
     All Q (map (marked_by ports) (map (set_by time) timers))
-all_waited Q time ports timers each k d h =
-    let e = length-map (map (set_by time) timers) (marked_by ports) in
-    let f = length-map timers (set_by time) in
-    let within : k < length timers = omega (arith, e, f, h) in
-    subst Q (sym (waited_at time ports timers k d within)) (each k d within)
+all_waited Q time ports timers each =
+    All-map Q (marked_by ports) (map (set_by time) timers)
+    (All-map (λ (timer : Timer). Q (marked_by ports timer)) (set_by time) timers each)
 
 -- a timer that was changed so has its port, and is read at its deadline at the latest
 record Changes (f : Timer → Timer) : Type 0 where
@@ -220,8 +197,7 @@ module _ {F D : Type 0} (held : List (ℕ × TransferState F D)) (f : Timer → 
   mapped_held settled = record {
     kept = mapped_kept settled.kept;
     none_closed = λ k d h.
-        subst (λ (p : ℕ). taken_of (at p held) ≡ None) (sym (port_of k d h))
-        (settled.none_closed k d (short k h));
+        rw (port_of k d h) (settled.none_closed k d (short k h));
   }
 
 module _ {F D : Type 0} (held : List (ℕ × TransferState F D)) (time : ℕ) where
@@ -246,10 +222,6 @@ module _ {S F D : Type 0} (meaning : StoreMeaning S D) (sources : SourceMeaning 
       → HasSlept millis ports read timed noted noted_events → HasWoken ports noted noted_events new after →
       Run (LoopStep meaning sources) (state_of buffer old before) (state_of buffer new after)
   waits_as buffer old read noted new millis ports {before} {timed} {noted_events} {after} reads may slept woken =
-      let requests = slept.requests ∙ reads.requests in
-      let watch = slept.watch in
-      let now = ap (λ (w : Watch). w.now) watch in
-      let limit = slept.limit ∙ reads.limit in
       let time = read.sockets.watch.now in
       let s = state_of buffer old before in
       let waited : LoopState S F D = record s {
@@ -263,16 +235,14 @@ module _ {S F D : Type 0} (meaning : StoreMeaning S D) (sources : SourceMeaning 
         rounds = s.rounds - 1;
         events = Quiet (Woke ports) ∷ Quiet (Slept millis) ∷ Watched read.sockets.watch ∷ s.events;
       } in
-      let forward : time ≤ new.sockets.watch.now = let f = woken.now in omega (arith, now, f) in
-      let end : round_end noted.sockets.watch.now noted.sockets.limit ≡ round_end time waited.limit =
-      ap (λ (n : ℕ). round_end n noted.sockets.limit) now ∙ ap (λ (n : ℕ). round_end time n) limit in
-      let soon : new.sockets.watch.now ≤ max time (round_end time waited.limit) =
-      subst (λ (n : ℕ). new.sockets.watch.now ≤ max n (round_end time waited.limit)) now
-      (subst (λ (n : ℕ). new.sockets.watch.now ≤ max noted.sockets.watch.now n) end woken.soon) in
-      let reading = new.sockets.watch.reading in
-      let by = woken.reading
-      ∙ (ap (λ (w : Watch). later_within w reading (round_end noted.sockets.watch.now noted.sockets.limit)) watch
-      ∙ ap (λ (n : ℕ). later_within read.sockets.watch reading n) end) in
+      let by : ℕ → ServerLoop S F D = λ limit. record old {
+        sockets = record old.sockets { poll = noted.sockets.poll; watch = read.sockets.watch; limit = limit };
+      } in
+      let is : noted ≡ by waited.limit =
+      slept.rest
+      ∙ (ap (λ (d : ServerLoop S F D). record d { sockets = record d.sockets { poll = noted.sockets.poll } }) reads.rest
+      ∙ ap by reads.limit) in
+      let woke = subst (λ (d : ServerLoop S F D). HasWoken ports d noted_events new after) is woken in
       Then (Then Start (Waited (record {
         watch = read.sockets.watch;
         by = record { time = reads.reading; forward = reads.forward; soon = reads.soon };
@@ -284,7 +254,7 @@ module _ {S F D : Type 0} (meaning : StoreMeaning S D) (sources : SourceMeaning 
       (Clock_read (record {
         watch = new.sockets.watch;
         woken = refl;
-        by = record { time = by; forward = forward; soon = soon };
+        by = record { time = woke.reading; forward = woke.now; soon = woke.soon };
         is =
             same_state (state_of buffer new after)
             (record waited {
@@ -294,23 +264,10 @@ module _ {S F D : Type 0} (meaning : StoreMeaning S D) (sources : SourceMeaning 
               woken = false;
               events = Watched new.sockets.watch ∷ waited.events;
             })
-            (woken.requests ∙ requests) (woken.range ∙ (slept.range ∙ reads.range))
-            (woken.longest ∙ (slept.longest ∙ reads.longest)) (woken.backoff ∙ (slept.backoff ∙ reads.backoff))
-            (woken.requests_only ∙ (slept.requests_only ∙ reads.requests_only))
-            (woken.per_client ∙ (slept.per_client ∙ reads.per_client))
-            (woken.server ∙ (slept.server ∙ reads.server))
-            (ap (λ (p : Option (Endpoint × ℕ)). pending_in p buffer) (woken.pending ∙ (slept.pending ∙ reads.pending)))
-            (woken.timers
-            ∙ (ap (λ (n : ℕ). map (marked_by ports) (map (set_by n) (timers_of noted))) now
-            ∙ ap (λ (ts : List Timer). map (marked_by ports) (map (set_by time) ts))
-            (slept.timers ∙ ap (map timer_of) reads.ports))) refl (woken.limit ∙ end) refl
-            (woken.marked ∙ (ap (λ (b : Bool). b || is_among noted.sockets.requests.port ports)
-            (slept.marked ∙ reads.marked)
-            ∙ ap (λ (p : ℕ). old.sockets.is_ready || is_among p ports) requests)) woken.asked
-            (woken.drain ∙ (slept.drain ∙ reads.drain))
-            (woken.left ∙ (slept.left ∙ reads.left))
-            (woken.rounds ∙ ap (λ (n : ℕ). n - 1) (slept.rounds ∙ reads.rounds))
-            (woken.events ∙ ap (λ (es : List SocketEvent). Watched new.sockets.watch ∷ es)
+            woke.requests woke.range woke.longest woke.backoff woke.requests_only woke.per_client woke.server
+            (ap (λ (p : Option (Endpoint × ℕ)). pending_in p buffer) woke.pending) woke.timers refl woke.limit refl
+            woke.marked woke.asked woke.drain woke.left woke.rounds
+            (woke.events ∙ ap (λ (es : List SocketEvent). Watched new.sockets.watch ∷ es)
             (slept.events ∙ ap (λ (es : List SocketEvent). Quiet (Woke ports) ∷ Quiet (Slept millis) ∷ es) reads.events));
       }))
 
@@ -318,16 +275,14 @@ module _ {S F D : Type 0} (meaning : StoreMeaning S D) (sources : SourceMeaning 
   pub read_settled : (old read : ServerLoop S F D) {before after : List SocketEvent} → HasRead old before read after →
       IsSettled old → IsSettled read
   read_settled old read reads settled =
-      subst (λ (ps : List (Port TransferSocket)). AreSettled read.server.held (map timer_of ps)) (sym reads.ports)
-      (subst (λ (s : ServerState S F D). AreSettled s.held (timers_of old)) (sym reads.server) settled)
+      subst (λ (d : ServerLoop S F D). IsSettled d) (sym reads.rest) settled
 
   -- a wait leaves what is settled
   pub slept_settled : (old noted : ServerLoop S F D) (millis : ℕ) (ports : List ℕ) {before after : List SocketEvent} →
       HasSlept millis ports old before noted after →
       IsSettled old → IsSettled noted
   slept_settled old noted millis ports slept settled =
-      subst (λ (ts : List Timer). AreSettled noted.server.held ts) (sym slept.timers)
-      (subst (λ (s : ServerState S F D). AreSettled s.held (timers_of old)) (sym slept.server) settled)
+      subst (λ (d : ServerLoop S F D). IsSettled d) (sym slept.rest) settled
 
   -- after a wait each transfer is settled as before it
   pub woken_settled : (noted new : ServerLoop S F D) (ports : List ℕ) {before after : List SocketEvent} →
@@ -335,11 +290,9 @@ module _ {S F D : Type 0} (meaning : StoreMeaning S D) (sources : SourceMeaning 
       IsSettled new
   woken_settled noted new ports woken settled =
       let time = noted.sockets.watch.now in
-      let set = map (set_by time) (timers_of noted) in
-      subst (λ (ts : List Timer). AreSettled new.server.held ts) (sym woken.timers)
-      (subst (λ (s : ServerState S F D). AreSettled s.held (map (marked_by ports) set)) (sym woken.server)
-      (mapped_held noted.server.held (marked_by ports) (marks ports) set
-      (set_held noted.server.held time (timers_of noted) settled)))
+      rw (woken.timers, woken.server)
+      (mapped_held noted.server.held (marked_by ports) (marks ports) (map (set_by time) (timers_of noted))
+      (set_held noted.server.held time (timers_of noted) settled))
 
   -- and counts anew
   pub woken_few : (noted new : ServerLoop S F D) (ports : List ℕ) {before after : List SocketEvent} →

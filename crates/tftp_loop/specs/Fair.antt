@@ -4,10 +4,8 @@ use Rattle.std.specs.Prelude.{ℕ, ◌≡◌, ◌≢◌, ◌≤◌, ◌+◌, ◌
 use Rattle.tftp_file.specs.Source.{SourceMeaning}
 use Rattle.tftp_store.specs.Store.{StoreMeaning}
 use Rattle.tftp_sockets.specs.Trace.{SocketEvent, QuietEvent}
-use Rattle.tftp_sockets.specs.Trace.SocketEvent.{Received, Sent, Watched, Elapsed, Printed, Quiet}
-use Rattle.tftp_sockets.specs.Trace.QuietEvent.{Empty, Failed, New_socket, No_socket}
-use Rattle.tftp_sockets.specs.Trace.QuietEvent.{Out_of_memory, No_reader, Drain_signalled}
-use Rattle.tftp_sockets.specs.Trace.QuietEvent.{Slept, Woke}
+use Rattle.tftp_sockets.specs.Trace.SocketEvent.{Received, Quiet}
+use Rattle.tftp_sockets.specs.Trace.QuietEvent.{Woke}
 use Rattle.tftp_loop.specs.Run.{Run}
 use Rattle.tftp_loop.specs.Steps.{Timer, PortState, LoopState, PortStep, LoopStep, most_in_round}
 
@@ -15,11 +13,7 @@ use Rattle.tftp_loop.specs.Steps.{Timer, PortState, LoopState, PortStep, LoopSte
 abbrev pub received_in : List SocketEvent → ℕ
 received_in [] = 0
 received_in (Received port from bytes ∷ events) = 1 + received_in events
-received_in (Sent port to bytes ∷ events) = received_in events
-received_in (Watched watch ∷ events) = received_in events
-received_in (Elapsed port time ∷ events) = received_in events
-received_in (Printed line ∷ events) = received_in events
-received_in (Quiet event ∷ events) = received_in events
+received_in (event ∷ events) = received_in events
 
 -- at most so many datagrams were received from one trace to the other
 abbrev pub ReceivesAtMost : ℕ → List SocketEvent → List SocketEvent → Type 0
@@ -27,26 +21,16 @@ ReceivesAtMost most before after = received_in after ≤ most + received_in befo
 
 -- a count since the newest wait, after this event
 abbrev pub since_by : QuietEvent → ℕ → ℕ
-since_by (Empty port) before = before
-since_by (Failed port) before = before
-since_by (Slept millis) before = before
 since_by (Woke ports) before = 0
-since_by (No_socket port) before = before
-since_by (New_socket port) before = before
-since_by Out_of_memory before = before
-since_by No_reader before = before
-since_by Drain_signalled before = before
+since_by event before = before
 
 -- how many datagrams were received at the port since the newest wait
 abbrev pub received_since : ℕ → List SocketEvent → ℕ
 received_since port [] = 0
 received_since port (Received p from bytes ∷ events) =
     (if p == port then 1 else 0) + received_since port events
-received_since port (Sent p to bytes ∷ events) = received_since port events
-received_since port (Watched watch ∷ events) = received_since port events
-received_since port (Elapsed p time ∷ events) = received_since port events
-received_since port (Printed line ∷ events) = received_since port events
 received_since port (Quiet event ∷ events) = since_by event (received_since port events)
+received_since port (event ∷ events) = received_since port events
 
 module _ {S F D : Type 0} (meaning : StoreMeaning S D) (sources : SourceMeaning F) where
   -- a timer counts each datagram that is received at its port

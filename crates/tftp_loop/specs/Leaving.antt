@@ -43,10 +43,9 @@ HasWritten peer events =
     (port : ℕ) × (bytes : List ℕ) × Contains events (Received port peer bytes)
 
 module _ {F : Type 0} (sources : SourceMeaning F) (root : List ℕ) (requests largest : ℕ) where
-  -- the endpoint asked at the request port for a file, and a source of this root that was opened at
-  -- its path and in its mode, of a length that was stated, gave the block, which is no longer than
-  -- the largest block
-  pub record AskedFor (peer : Endpoint) (events : List SocketEvent) (piece : List ℕ) : Type 0 where
+  -- the endpoint asked at the request port for a file, and a source of this root was opened at its
+  -- path and in its mode, of a length that was stated
+  pub record Asks (peer : Endpoint) (events : List SocketEvent) : Type 0 where
     pub request : Request
     pub bytes : List ℕ
     pub spells : Spells (Read request) bytes
@@ -56,6 +55,11 @@ module _ {F : Type 0} (sources : SourceMeaning F) (root : List ℕ) (requests la
     pub first : F
     pub stated : ℕ
     pub opened : sources.opens root path request.mode stated first
+
+  -- and that gave the block, which is no longer than the largest block
+  pub record AskedFor (peer : Endpoint) (events : List SocketEvent) (piece : List ℕ) : Type 0 where
+    pub asks : Asks peer events
+    pub open asks use *
     pub gave : GaveBlock sources first piece
     pub long : length piece ≤ largest
 

@@ -1,6 +1,6 @@
 -- The loop's own values as states of its run.
 use Rattle.std.specs.Prelude.{ℕ, ◌≡◌, ◌≢◌, ◌≤◌, ◌⊎◌, ⊤, false, List, [], ◌∷◌, map, take, Option}
-use Rattle.std.specs.Prelude.{Some, None, IfSome, IfErr, Result, Ok, Err, vec_capacity}
+use Rattle.std.specs.Prelude.{Some, None, IfSome, IfErr, Result, Err, vec_capacity}
 use Rattle.tftp_file.specs.Source.{SourceMeaning}
 use Rattle.tftp_ends.specs.declared.endpoint.Endpoint.{Endpoint}
 use Rattle.tftp_store.specs.Store.{StoreMeaning}
@@ -94,11 +94,9 @@ StopsServing before fault events =
 -- the trace at the end of a run with this result: that memory was refused, or that a look found
 -- no reader, is noted last
 abbrev pub noted_at_end : {A : Type 0} → Result A LoopFault → List SocketEvent → List SocketEvent
-noted_at_end (Ok done) events = events
-noted_at_end (Err (faults.Socket reason)) events = events
-noted_at_end (Err faults.Output) events = events
 noted_at_end (Err faults.NoReader) events = Quiet No_reader ∷ events
 noted_at_end (Err faults.Memory) events = Quiet Out_of_memory ∷ events
+noted_at_end result events = events
 
 -- the pending datagram, from its length and the buffer that it is in
 abbrev pub pending_in : Option (Endpoint × ℕ) → List ℕ → Option (Endpoint × List ℕ)

@@ -66,12 +66,11 @@ before_visit passes.Due = MOST_AT_ONCE
 
 -- what a status states of the timer of its port
 abbrev pub LeavesTimer : PortStatus → ℕ → Timer → Type 0
-LeavesTimer statuses.Empty now timer = timer.look_at ≡ timer.deadline
 LeavesTimer statuses.Onward now timer =
     (timer.deadline ≡ deadline_of now (wait_in timer))
     × (timer.look_at ≡ next_look now (wait_in timer))
-LeavesTimer statuses.Unfinished now timer = timer.look_at ≡ timer.deadline
 LeavesTimer statuses.Closed now timer = ⊤
+LeavesTimer status now timer = timer.look_at ≡ timer.deadline
 
 -- the pass is not for the port of the timer: it is not marked, or not due
 abbrev pub IsNotVisited : Pass → ℕ → Timer → Type 0
@@ -80,10 +79,8 @@ IsNotVisited passes.Due now timer = now < timer.look_at
 
 -- it holds unless the status is that the transfer closed
 abbrev pub UnlessClosed : PortStatus → Type 0 → Type 0
-UnlessClosed statuses.Empty P = P
-UnlessClosed statuses.Onward P = P
-UnlessClosed statuses.Unfinished P = P
 UnlessClosed statuses.Closed P = ⊤
+UnlessClosed status P = P
 
 -- no two timers have one port
 abbrev pub HavePortsApart : List Timer → Type 0
@@ -242,25 +239,15 @@ module _ {S F D : Type 0} where
   -- the clock was read before a wait
   pub record HasRead (old : ServerLoop S F D) (before : List SocketEvent) (new : ServerLoop S F D)
       (after : List SocketEvent) : Type 0 where
-    pub requests : new.sockets.requests.port ≡ old.sockets.requests.port
-    pub range : new.sockets.pool.range ≡ old.sockets.pool.range
-    pub longest : new.longest ≡ old.longest
-    pub backoff : new.backoff ≡ old.backoff
-    pub requests_only : new.requests_only ≡ old.requests_only
-    pub per_client : new.per_client ≡ old.per_client
-    pub server : new.server ≡ old.server
-    pub pending : new.pending ≡ old.pending
-    pub ports : new.ports.items ≡ old.ports.items
+    pub rest : new ≡ record old {
+      sockets = record old.sockets { watch = new.sockets.watch; limit = new.sockets.limit };
+    }
     pub reading : new.sockets.watch.now ≡ later_within old.sockets.watch
         new.sockets.watch.reading (round_end old.sockets.watch.now old.sockets.limit)
     pub forward : old.sockets.watch.now ≤ new.sockets.watch.now
     pub soon : new.sockets.watch.now
         ≤ max old.sockets.watch.now (round_end old.sockets.watch.now old.sockets.limit)
     pub limit : new.sockets.limit ≡ min (old.sockets.watch.now + LONGEST_WAIT) last_moment
-    pub marked : new.sockets.is_ready ≡ old.sockets.is_ready
-    pub asked : new.sockets.has_received ≡ old.sockets.has_received
-    pub drain : new.drain ≡ old.drain
-    pub left : new.left ≡ old.left
     pub rounds : new.rounds ≡ old.rounds
     pub room : HasRoom old → HasRoom new
     pub events : after ≡ Watched new.sockets.watch ∷ before
@@ -269,21 +256,7 @@ module _ {S F D : Type 0} where
   pub record HasSlept (millis : ℕ) (ports : List ℕ) (old : ServerLoop S F D)
       (before : List SocketEvent) (new : ServerLoop S F D) (after : List SocketEvent)
       : Type 0 where
-    pub requests : new.sockets.requests.port ≡ old.sockets.requests.port
-    pub range : new.sockets.pool.range ≡ old.sockets.pool.range
-    pub longest : new.longest ≡ old.longest
-    pub backoff : new.backoff ≡ old.backoff
-    pub requests_only : new.requests_only ≡ old.requests_only
-    pub per_client : new.per_client ≡ old.per_client
-    pub server : new.server ≡ old.server
-    pub pending : new.pending ≡ old.pending
-    pub timers : timers_of new ≡ timers_of old
-    pub watch : new.sockets.watch ≡ old.sockets.watch
-    pub limit : new.sockets.limit ≡ old.sockets.limit
-    pub marked : new.sockets.is_ready ≡ old.sockets.is_ready
-    pub asked : new.sockets.has_received ≡ old.sockets.has_received
-    pub drain : new.drain ≡ old.drain
-    pub left : new.left ≡ old.left
+    pub rest : new ≡ record old { sockets = record old.sockets { poll = new.sockets.poll } }
     pub rounds : new.rounds ≡ old.rounds
     pub room : HasRoom old → HasRoom new
     pub events : after ≡ Quiet (Woke ports) ∷ Quiet (Slept millis) ∷ before

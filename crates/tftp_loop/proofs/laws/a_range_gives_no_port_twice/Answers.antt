@@ -3,4 +3,4 @@ use Rattle.tftp_loop.proofs.PortUses.{uses_no_port_twice}
 use Rattle.tftp_loop.proofs.laws.a_range_gives_no_port_twice.Goals as goal
 
 pub returns : goal.returns
-returns c = λ range first last ports moved uses fewer. uses_no_port_twice range first last ports moved uses fewer
+returns c = uses_no_port_twice

@@ -3,13 +3,10 @@ use Rattle.tftp_loop.proofs.Dropping.{answers_only_requests, drops_no_request, d
 use Rattle.tftp_loop.proofs.laws.a_server_drops_no_request.Goals as goal
 
 pub returns-clause-requests : goal.returns-clause-requests
-returns-clause-requests g c = λ old new loses request spells dropped. drops_no_request
-    g.T.Store.meaning g.T.Source.Source.meaning old new loses request spells dropped
+returns-clause-requests g c = drops_no_request g.T.Store.meaning g.T.Source.Source.meaning
 
 pub returns-clause-told : goal.returns-clause-told
-returns-clause-told g c = λ config port server before old new off run loses dropped. drops_only_if_told
-    g.T.Store.meaning g.T.Source.Source.meaning config port server before old new off run loses dropped
+returns-clause-told g c = drops_only_if_told g.T.Store.meaning g.T.Source.Source.meaning
 
 pub returns-clause-only : goal.returns-clause-only
-returns-clause-only g c = λ config port server before old new on run answers. answers_only_requests
-    g.T.Store.meaning g.T.Source.Source.meaning config port server before old new on run answers
+returns-clause-only g c = answers_only_requests g.T.Store.meaning g.T.Source.Source.meaning

@@ -3,15 +3,10 @@ use Rattle.tftp_loop.proofs.Handling.{handles_before_it_sleeps, handles_by_the_n
 use Rattle.tftp_loop.proofs.laws.a_server_handles_before_it_sleeps.Goals as goal
 
 pub returns-clause-reads : goal.returns-clause-reads
-returns-clause-reads g c = λ old woken last new waits among run next on. reads_the_request_port g.T.Store.meaning
-    g.T.Source.Source.meaning old woken last new waits among run next on
+returns-clause-reads g c = reads_the_request_port g.T.Store.meaning g.T.Source.Source.meaning
 
 pub returns-clause-handles : goal.returns-clause-handles
-returns-clause-handles g c = λ old received last new receives run waits some. handles_before_it_sleeps
-    g.T.Store.meaning g.T.Source.Source.meaning old received last new receives run waits some
+returns-clause-handles g c = handles_before_it_sleeps g.T.Store.meaning g.T.Source.Source.meaning
 
 pub returns-clause-soon : goal.returns-clause-soon
-returns-clause-soon g c =
-    λ config port server before old received waiting woken last new begins receives run waits goes next.
-    handles_by_the_next_wait g.T.Store.meaning g.T.Source.Source.meaning config port server before old received waiting
-    woken last new begins receives run waits goes next
+returns-clause-soon g c = handles_by_the_next_wait g.T.Store.meaning g.T.Source.Source.meaning

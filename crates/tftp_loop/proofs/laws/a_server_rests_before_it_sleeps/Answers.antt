@@ -3,6 +3,4 @@ use Rattle.tftp_loop.proofs.Sleeping.{rests_before_it_sleeps}
 use Rattle.tftp_loop.proofs.laws.a_server_rests_before_it_sleeps.Goals as goal
 
 pub returns : goal.returns
-returns g c =
-    λ port ending server before old new run waits some. rests_before_it_sleeps g.T.Store.meaning
-    g.T.Source.Source.meaning port ending server before old new run waits some
+returns g c = rests_before_it_sleeps g.T.Store.meaning g.T.Source.Source.meaning

@@ -3,6 +3,4 @@ use Rattle.tftp_loop.proofs.Leaving.{sends_only_given}
 use Rattle.tftp_loop.proofs.laws.a_server_sends_only_what_was_asked.Goals as goal
 
 pub returns : goal.returns
-returns g c = λ root start now none idle has run. sends_only_given g.T.Store.meaning g.T.Source.Source.meaning
-    c.answers_within_request.ensures root
-    start now none idle has run
+returns g c = sends_only_given g.T.Store.meaning g.T.Source.Source.meaning c.answers_within_request.ensures

@@ -1,5 +1,5 @@
-use Rattle.tftp_loop.proofs.Common.{arith, ◌≡◌, min, refl, sym, ap, subst, ◌∙◌, ◌++◌, ◌∷◌, [], Some, Start, IsOneOf}
-use Rattle.tftp_loop.proofs.Common.{coming, drawn_from, PortRange}
+use Rattle.tftp_loop.proofs.Common.{arith, min, refl, sym, ap, subst, ◌∙◌, ◌++◌, ◌∷◌, [], Some, Start, IsOneOf, coming}
+use Rattle.tftp_loop.proofs.Common.{drawn_from, PortRange}
 use Rattle.std.proofs.lemmas.List.Sorted.{IsPermutation-refl}
 use Rattle.tftp_loop.specs.PortPool.{after_bind}
 use Rattle.tftp_loop.specs.PortsInTurn.{Unused, Uses}
@@ -41,22 +41,20 @@ loop-port-preserved g c =
     let last = before.turns.4 in
     let whole = rest_long (coming c.args.order.now) before.turns.0 (coming c.loop-port.order) last in
     let left = before.left in
-    let half = before.half in
-    let same = ap drawn_from before.range in
     record {
       range = c.draw_port.ensures.range ∙ before.range;
       ports = c.draw_port.ensures.ports;
       turns = (
         before.turns.0 ++ port ∷ [],
-        Uses before.turns.1 (draws_few c.loop-port.order c.draw_port.new.order c.min.result port draws
-            (omega (arith, c.min.ensures, half, same))),
+        Uses before.turns.1 (draws_few c.loop-port.order c.draw_port.new.order c.min.result port _ draws before.half
+            before.range (omega (arith, c.min.ensures))),
         omega (arith, more, test, many),
         missed_more port (g.N.Udp.log c.loop-port.net) _ noted before.turns.0 before.turns.3,
         drawn_last (coming c.args.order.now) before.turns.0 c.loop-port.order draws.0 c.draw_port.new.order c.min.result port
             last (omega (arith, c.min.ensures, whole, many)) (omega (arith, whole, many, left)) draws.1 draws.2,
       );
       left = omega (arith, test);
-      half = half;
+      half = before.half;
       tries =
           tried_more port (g.N.Udp.log c.args.net.now) (g.N.Udp.log c.loop-port.net) _
           (subst (λ (range : PortRange). IsOneOf (Some range) port) before.range c.in_ok-port.ensures.port) noted
@@ -68,34 +66,26 @@ loop-port-preserved g c =
 pub returns-in-Some-clause-turns : goal.returns-in-Some-clause-turns
 returns-in-Some-clause-turns g c =
     let before = c.loop-port.invariant in
-    let port = c.in_ok-port.port in
-    let draws = c.in_ok-port.ensures.draws in
-    let half = before.half in
-    let same = ap drawn_from before.range in
     record {
       ports = before.turns.0;
       middle = c.loop-port.order;
-      port = port;
+      port = c.in_ok-port.port;
       earlier = before.turns.1;
-      last = draws_few c.loop-port.order c.draw_port.new.order c.min.result port draws
-          (omega (arith, c.min.ensures, half, same));
+      last = draws_few c.loop-port.order c.draw_port.new.order c.min.result c.in_ok-port.port _ c.in_ok-port.ensures.draws
+          before.half before.range (omega (arith, c.min.ensures));
       bound = c.in-Some.ensures.bound;
     }
 
 pub returns-then-left-le1-clause-turns : goal.returns-then-left-le1-clause-turns
 returns-then-left-le1-clause-turns g c =
     let before = c.loop-port.invariant in
-    let port = c.in_ok-port.port in
-    let draws = c.in_ok-port.ensures.draws in
-    let half = before.half in
-    let same = ap drawn_from before.range in
     record {
       ports = before.turns.0;
       middle = c.loop-port.order;
-      port = port;
+      port = c.in_ok-port.port;
       earlier = before.turns.1;
-      last = draws_few c.loop-port.order c.draw_port.new.order c.min.result port draws
-          (omega (arith, c.min.ensures, half, same));
+      last = draws_few c.loop-port.order c.draw_port.new.order c.min.result c.in_ok-port.port _ c.in_ok-port.ensures.draws
+          before.half before.range (omega (arith, c.min.ensures));
       bound = tt;
     }
 

@@ -1,5 +1,5 @@
 -- What is left of the order once its first ports are mixed and one is used.
-use Rattle.tftp_loop.proofs.Common.{◌≡◌, sym, subst, ◌∙◌, Some, IfSome, IsOneOf, PortRange}
+use Rattle.tftp_loop.proofs.Common.{subst, ◌∙◌, Some, IfSome, IsOneOf, PortRange}
 use Rattle.std.proofs.lemmas.Option.{IfSome_then}
 use Rattle.tftp_loop.proofs.PoolLemmas.{mixed_within}
 use Rattle.tftp_loop.proofs.port_pool.draw_port.Goals as goal

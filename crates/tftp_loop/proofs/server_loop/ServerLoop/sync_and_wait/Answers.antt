@@ -21,21 +21,7 @@ returns-then-poll_now-clause-serves g c =
     c.requires.rounds (omega arith)
     (λ h. inr (λ e. c.poll_now.ensures.some c.if-poll_now.true (sym same ∙ e))))
     (record {
-      requests = refl;
-      range = refl;
-      longest = refl;
-      backoff = refl;
-      requests_only = refl;
-      per_client = refl;
-      server = refl;
-      pending = refl;
-      timers = refl;
-      watch = refl;
-      limit = refl;
-      marked = refl;
-      asked = refl;
-      drain = refl;
-      left = refl;
+      rest = refl;
       rounds = refl;
       room = λ h. h;
       events =

@@ -1,5 +1,4 @@
-use Rattle.tftp_loop.proofs.Common.{◌≡◌, List, subst, sym, SocketEvent, IsTended}
-use Rattle.tftp_loop.specs.LoopStates.{OnlyServes}
+use Rattle.tftp_loop.proofs.Common.{subst, sym, IsTended}
 use Rattle.tftp_loop.proofs.server_loop.ServerLoop.wait.Goals as goal
 
 pub sync_and_wait-requires-clause-tended : goal.sync_and_wait-requires-clause-tended
