@@ -3,31 +3,25 @@
 use Rattle.tftp_player.proofs.Common.{◌≡◌, false, [], ◌∷◌, Some, refl, arith, rules, inl, inr, slice_get, Kind}
 use Rattle.tftp_player.proofs.Common.{sending_end, receiving_end, IsReached, service, IsAccepted, WorldState}
 use Rattle.tftp_player.proofs.Common.{sent_report, opened_in, datagram, HasPort, WorldStep, ServiceStep}
-use Rattle.tftp_player.proofs.Common.{At_request_port, Deliver, packet_in}
-use Rattle.std.specs.Fmt.{digits}
-use Rattle.tftp_negotiate.specs.Agreement.{taken_option}
-use Rattle.tftp_negotiate.specs.Answer.{answered_option}
-use Rattle.tftp_negotiate.specs.Negotiation.{occurrences_of}
-use Rattle.tftp_negotiate.specs.Options.{name_of, number_of}
+use Rattle.tftp_player.proofs.Common.{At_request_port, Deliver, packet_in, IsRepeated}
+use Rattle.tftp_negotiate.specs.Options.{number_of, name_of}
 use Rattle.tftp_negotiate.specs.declared.known.Kind.TheVariants.{Read, Write}
 use Rattle.tftp_player.specs.Recovering.{SomeReadRecovers, SomeWriteRecovers, SomeReadRequestRecovers}
 use Rattle.tftp_player.specs.Recovering.{SomeWriteRequestRecovers}
 use Rattle.tftp_player.proofs.SampleDeliveries.{spells, world_at, reports, settles, behaves, timed_by}
-use Rattle.tftp_player.proofs.Witness.{config, files_for, new_world_for, asked_world, begun_world, event_for}
-use Rattle.tftp_player.proofs.Witness.{client_for, Sample, Runs, asks, opens, name, request_for, server_for}
-use Rattle.tftp_player.proofs.Witness.{service_for, is_to_port}
+use Rattle.tftp_player.proofs.Witness.{config, asked_world, begun_world, client_for, Sample, Runs, opens, name}
+use Rattle.tftp_player.proofs.Witness.{request_for, server_for, service_for, is_to_port, reached_by}
 use Rattle.tftp_player.proofs.Witnesses.{blocks, blocks_run, oack, oack_runs}
+use Rattle.tftp_negotiate.specs.Answer.{answered_option}
+use Rattle.std.specs.Fmt.{digits}
+use Rattle.tftp_negotiate.specs.Negotiation.{occurrences_of}
+use Rattle.tftp_negotiate.specs.Agreement.{taken_option}
 
 -- ---- the first datagram of the server's end is lost
 -- events lead to the world in which it was sent
 begun_reached : (kind : Kind) (s : Sample) → Runs kind s → IsReached (begun_world kind s)
-begun_reached kind s runs = record {
-  files = files_for kind s;
-  config = config;
-  events = event_for kind s ∷ Deliver 0 ∷ [];
-  max_block = (omega arith, omega arith);
-  plays = search (rules, asked_world, new_world_for, asks, begun_world, opens);
-}
+begun_reached kind s runs =
+    reached_by kind s runs.may (Deliver 0 ∷ []) _ (begun_world kind s, _, opens kind s runs, refl)
 
 -- the world after the timeout of the server's end
 abbrev server_timed : Kind → Sample → WorldState
@@ -101,13 +95,7 @@ write_recovers = (
 
 -- ---- the request is lost
 asked_reached : (kind : Kind) (s : Sample) → Runs kind s → IsReached (asked_world kind s)
-asked_reached kind s runs = record {
-  files = files_for kind s;
-  config = config;
-  events = event_for kind s ∷ [];
-  max_block = (omega arith, omega arith);
-  plays = (asked_world kind s, sent_report (new_world_for kind s), asks kind s runs.may, refl);
-}
+asked_reached kind s runs = reached_by kind s runs.may [] _ refl
 
 -- the world after the client's timeout
 abbrev pub client_timed : Kind → Sample → WorldState
@@ -134,15 +122,21 @@ read_opened s =
     opened_in (client_timed Read s)
     (sending_end (client_timed Read s) (client_for Read s).address (request_for Read s) s.mode name s.file s.agreed)
 
--- the server accepts the sample read when its request is sent again
-pub read_accepted : (s : Sample) → Runs Read s →
-    service (client_timed Read s) false (request_for Read s) (Some (packet_in (request_for Read s)))
-    ≡ service_for Read s → IsAccepted (client_timed Read s) (client_for Read s) (service_for Read s)
-read_accepted s runs is = record {
-  decoded = Some (packet_in (request_for Read s));
-  says = spells (request_for Read s) runs.spelled;
+not_repeated : (kind : Kind) (s : Sample) →
+    IsRepeated false (client_for kind s).address (Some (packet_in (request_for kind s))) (client_timed kind s).ends
+not_repeated Read s = search rules
+not_repeated Write s = search rules
+
+-- the server accepts a request when it is sent again
+accepted_again : (kind : Kind) (s : Sample) → Runs kind s →
+    service (client_timed kind s) false (request_for kind s) (Some (packet_in (request_for kind s)))
+    ≡ service_for kind s →
+    IsAccepted (client_timed kind s) (client_for kind s) (service_for kind s)
+accepted_again kind s runs is = record {
+  decoded = Some (packet_in (request_for kind s));
+  says = spells (request_for kind s) runs.spelled;
   repeated = false;
-  repeats = search rules;
+  repeats = not_repeated kind s;
   is = is;
 }
 
@@ -169,11 +163,11 @@ read_request_recovers = (
         (sent_report (client_timed Read blocks) ∷ reports blocks.host 8 (read_opened blocks) 2) (
           read_opened blocks,
           request_delivered Read blocks (client_timed Read blocks) (read_opened blocks) (omega arith) refl
-              (read_accepted blocks blocks_run refl)
+              (accepted_again Read blocks blocks_run refl)
               (blocks.file, refl, record { reports = refl; is = refl }),
           settles blocks.host 8 (read_opened blocks) 2 (search rules),
         ) (inr (refl, refl));
-    accepted = read_accepted blocks blocks_run refl;
+    accepted = accepted_again Read blocks blocks_run refl;
   },
   refl,
   blocks_run.answered,
@@ -186,17 +180,6 @@ write_opened =
     opened_in (client_timed Write oack)
     (receiving_end (client_timed Write oack) (client_for Write oack).address (request_for Write oack) oack.mode name
     oack.agreed)
-
--- the server accepts the sample write when its request is sent again
-pub write_accepted : IsAccepted (client_timed Write oack) (client_for Write oack) (service_for Write oack)
-unfolding occurrences_of name_of number_of digits answered_option taken_option
-write_accepted = record {
-  decoded = Some (packet_in (request_for Write oack));
-  says = spells (request_for Write oack) oack_runs.spelled;
-  repeated = false;
-  repeats = search rules;
-  is = refl;
-}
 
 -- a write recovers whose request was lost
 pub write_request_recovers : SomeWriteRequestRecovers
@@ -218,10 +201,11 @@ write_request_recovers = (
     run = behaves (asked_world Write oack) _ 0 (client_for Write oack) (client_for Write oack) refl refl refl (omega arith)
         (sent_report (client_timed Write oack) ∷ reports oack.host 5 write_opened 2) (
           write_opened,
-          request_delivered Write oack (client_timed Write oack) write_opened (omega arith) refl write_accepted (search),
+          request_delivered Write oack (client_timed Write oack) write_opened (omega arith) refl
+              (accepted_again Write oack oack_runs refl) (search),
           settles oack.host 5 write_opened 2 (search rules),
         ) (inl (tt, (tt, (tt, (tt, (tt, ((λ e. cc), tt)))))));
-    accepted = write_accepted;
+    accepted = accepted_again Write oack oack_runs refl;
   },
   oack_runs.answered,
   omega arith,

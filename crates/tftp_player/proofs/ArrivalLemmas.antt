@@ -3,16 +3,15 @@
 use Rattle.tftp_player.proofs.Common.{◌≡◌, ◌≢◌, ℕ, ◌+◌, ◌<◌, ◌≤◌, List, ◌++◌, length, Some, sym, ap, ◌∙◌, subst, inl}
 use Rattle.tftp_player.proofs.Common.{inr, rules, ◌⊎◌, slice_get, slice_set, slice_index_or, slice_get_within, Config}
 use Rattle.tftp_player.proofs.Common.{request_port, Endpoint, OpenEnd, said_by, report_by, PlayedServer, world_of}
-use Rattle.tftp_player.proofs.Common.{ClosedEnd, WorldState, report_of, no_report, WorldEnd, Open_end}
-use Rattle.tftp_player.proofs.Common.{Closed_end, end_address, world_after, Datagram, Delivery, WorldRefuses, WorldStep}
-use Rattle.tftp_player.proofs.Common.{Deliver, WorldFault, Effect, Report}
+use Rattle.tftp_player.proofs.Common.{ClosedEnd, WorldState, report_of, no_report, WorldEnd, Open_end, Closed_end}
+use Rattle.tftp_player.proofs.Common.{end_address, world_after, Datagram, Delivery, WorldRefuses, WorldStep, Deliver}
+use Rattle.tftp_player.proofs.Common.{WorldFault, Effect, Report, EndHandles, refl, At_open_end, At_closed_end}
 use Rattle.tftp_player.specs.Effect.{no_effect}
-use Rattle.tftp_player.specs.EndSteps.{EndHandles}
 use Rattle.tftp_player.specs.Simulation.{EndsTake, EndTakesAt, LostAt}
 use Rattle.tftp_player.specs.Arriving.{ArrivalRefuses, EndsDelivery, EndsRefuse}
 use Rattle.tftp_player.proofs.HostEnds.{list_get, same_set}
 use Rattle.tftp_player.proofs.PlayLemmas.{report_is}
-use Rattle.tftp_player.proofs.StepLemmas.{open_arrives, closed_arrives, none_arrives, other_arrives}
+use Rattle.tftp_player.proofs.StepLemmas.{none_arrives, other_arrives}
 
 -- an arrival, with the report and the world replaced by equal ones
 landed : (w v v' : WorldState) (from to : Endpoint) (bytes : List ℕ) (r r' : Report) → r' ≡ r → v' ≡ v →
@@ -68,14 +67,19 @@ module _ (from to : Endpoint) (bytes : List ℕ) (before after : PlayedServer) (
         let lost = lost_there index x found same h in
         lands (old sent) no_report (lost_report sent lost) (still sent lost)
         (subst (λ (a : Endpoint). Delivery (old sent) from a bytes no_report (old sent)) same
-        (closed_arrives (old sent) index x from bytes found))
+        (At_closed_end index x found refl (record { reports = refl; is = refl })))
     by_case (Open_end x) found (inr (same, h)) =
         let t = h.takes in
         let v = world_after (old sent) index x t.turn t.held after.store.files in
         lands v (report_of (old sent) x t.turn) (report_is (old sent) x t.turn effect t.turns.effects)
         (turned_as sent index x h.next t h.is)
         (subst (λ (a : Endpoint). Delivery (old sent) from a bytes (report_of (old sent) x t.turn) v) same
-        (open_arrives (old sent) index x from bytes t.turn t.held after.store.files found t.steps t.commits))
+        (At_open_end index x found refl (record {
+          turn = t.turn;
+          held = t.held;
+          steps = t.steps;
+          turns = record { files = after.store.files; stored = t.commits; reports = refl; is = refl };
+        })))
 
   -- a datagram for a port that nobody has is lost
   pub nobody_arrives : (to.port < 1024) ⊎ (1024 + length ends ≤ to.port) → after ≡ before → ends' ≡ ends →

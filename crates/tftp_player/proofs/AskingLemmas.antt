@@ -5,16 +5,13 @@ use Rattle.tftp_player.proofs.Common.{Packet, IsBlockSize, memory_source, Decode
 use Rattle.tftp_player.proofs.Common.{request_port, Endpoint, EndsAsk, report_by, said_by, served_end, AnyRepeats}
 use Rattle.tftp_player.proofs.Common.{IsRepeated, Repeats, open_transfers, service, PlayedServer, world_of, WorldState}
 use Rattle.tftp_player.proofs.Common.{WorldEnd, next_port, standing, At_request_port, Delivery, HasPort, ServiceStep}
-use Rattle.tftp_player.proofs.Common.{Datagram, Effect, ServerEnd}
-use Rattle.tftp_negotiate.specs.declared.limits.Limits.{Limits}
+use Rattle.tftp_player.proofs.Common.{Datagram, Effect, ServerEnd, Limits, at, AnswersAs, ServerEndKept, Answer}
 use Rattle.tftp_server.specs.Request.{AdmissionState, AdmitsBeside, CarriesOut}
-use Rattle.tftp_server.specs.State.{at, without}
+use Rattle.tftp_server.specs.State.{without}
 use Rattle.tftp_server.specs.declared.opened.Opened.{Opened}
 use Rattle.tftp_server.specs.declared.server.admission.Occupancy.{Occupancy}
-use Rattle.tftp_player.specs.Answer.{AnswersAll, AnswersAs}
+use Rattle.tftp_player.specs.Answer.{AnswersAll}
 use Rattle.tftp_player.specs.Clients.{server_at}
-use Rattle.tftp_player.specs.ServerEnd.{ServerEndKept}
-use Rattle.tftp_player.specs.declared.ends.asking.Answer.{Answer}
 use Rattle.tftp_player.proofs.ServerLemmas.{PortAsking, PortLeft, PortDid, port_answers, released, request_did}
 
 -- ---- what `ask_server` left of the server, and its answer
@@ -94,9 +91,14 @@ module _ (w : WorldState) (from : Endpoint) (bytes : List ℕ) (answer : Answer)
 
 -- ---- the request port of the ends of a world
 module _ (from : Endpoint) (bytes : List ℕ) (server : PlayedServer) (ends : List WorldEnd) (occupancy : Occupancy)
-    (port : ℕ) (is : port ≡ 1024 + length ends) (fits : port < 65536) (counts : occupancy.count ≡ open_transfers ends)
-    (repeats : (decoded : Option Packet) × Decodes bytes decoded × IsRepeated occupancy.is_repeated from decoded ends)
+    (port : ℕ) (is : port ≡ 1024 + length ends) (fits : port < 65536) (listed : List WorldEnd)
+    (same_ends : listed ≡ ends) (counted : occupancy.count ≡ open_transfers listed)
+    (repeated : (decoded : Option Packet) × Decodes bytes decoded
+    × IsRepeated occupancy.is_repeated from decoded listed)
     (answer : Answer) (answers : AnswersAll server occupancy from bytes answer) where
+  repeats : (decoded : Option Packet) × Decodes bytes decoded × IsRepeated occupancy.is_repeated from decoded ends
+  repeats = rw (← same_ends) repeated
+
   abbrev w : List Datagram → WorldState
   w sent = world_of server.config sent server ends
 
@@ -107,18 +109,20 @@ module _ (from : Endpoint) (bytes : List ℕ) (server : PlayedServer) (ends : Li
   has sent = let l : 1024 + length ends ≤ 65535 = omega (arith, is, fits) in l
 
   answered : (sent : List Datagram) → AnswersAs (what sent) (w sent) from bytes answer
-  answered sent = search rules
+  answered sent =
+      answers (w sent) repeats.0 (record { files = refl; limits = refl; retries = refl; cap = refl; overwrite = refl })
+      (counted ∙ ap open_transfers same_ends) repeats.1
 
   -- no end opens
-  pub not_opened_asks : (ends0 : List WorldEnd) (given : List ℕ) → answer.opened ≡ None → ends0 ≡ ends →
-      given ≡ answer.bytes.items →
-      EndsAsk from bytes server server ends ends0
+  pub not_opened_asks : (after : PlayedServer) (ends0 : List WorldEnd) (given : List ℕ) → after ≡ server →
+      answer.opened ≡ None → ends0 ≡ ends → given ≡ answer.bytes.items →
+      EndsAsk from bytes server after ends ends0
       (record { from = request_port; to = answer.to; bytes = given; closed = None })
-  not_opened_asks ends0 given none same own sent =
-      rw (own) (subst (λ (es : List WorldEnd). Delivery (w sent) from request_port bytes (report_by sent (quiet_effect
-      (w sent) from bytes answer)) (world_of server.config (sent ++ said_by request_port answer.to answer.bytes.items)
-      server es)) (sym same) (At_request_port refl (has sent) repeats.0 repeats.1 occupancy.is_repeated repeats.2
-      (quietly (w sent) from bytes answer (what sent) (answered sent) none)))
+  not_opened_asks after ends0 given kept none same own sent =
+      rw (kept, own) (subst (λ (es : List WorldEnd). Delivery (w sent) from request_port bytes (report_by sent
+      (quiet_effect (w sent) from bytes answer)) (world_of server.config (sent ++ said_by request_port answer.to
+      answer.bytes.items) server es)) (sym same) (At_request_port refl (has sent) repeats.0 repeats.1
+      occupancy.is_repeated repeats.2 (quietly (w sent) from bytes answer (what sent) (answered sent) none)))
 
   opened_so : (s : ServerEnd) → answer.opened ≡ Some s → (sent : List Datagram) →
       OpenedStep (w sent) from bytes answer (what sent) s
@@ -128,18 +132,19 @@ module _ (from : Endpoint) (bytes : List ℕ) (server : PlayedServer) (ends : Li
   pub opened_kept : (s : ServerEnd) → answer.opened ≡ Some s → ServerEndKept s
   opened_kept s some = (opened_so s some []).kept
 
-  pub opened_asks : (s : ServerEnd) (here : Endpoint) (ends1 : List WorldEnd) (given : List ℕ) →
-      answer.opened ≡ Some s → here ≡ server_at port → ends1 ≡ ends ++ standing (served_end port s) ∷ [] →
+  pub opened_asks : (s : ServerEnd) (here : Endpoint) (after : PlayedServer) (ends1 : List WorldEnd) (given : List ℕ) →
+      after ≡ server → answer.opened ≡ Some s → here ≡ server_at port →
+      ends1 ≡ ends ++ standing (served_end port s) ∷ [] →
       given ≡ answer.bytes.items →
-      EndsAsk from bytes server server ends ends1
+      EndsAsk from bytes server after ends ends1
       (record { from = here; to = answer.to; bytes = given; closed = None })
-  opened_asks s here ends1 given some at more own sent =
+  opened_asks s here after ends1 given kept some at more own sent =
       let arrives : Effect → List WorldEnd → Type 0 = λ (e : Effect) (es : List WorldEnd). Delivery (w sent) from
       request_port bytes (report_by sent e) (world_of server.config (sent ++ said_by e.from e.to e.bytes) server es) in
       let effect : record { from = here; to = answer.to; bytes = given; closed = None } ≡ opened_effect (w sent) from
       bytes answer = search rules in
       let players : ends1 ≡ ends ++ standing (served_end (next_port (w sent)) s) ∷ [] =
       more ∙ ap (λ (n : ℕ). ends ++ standing (served_end n s) ∷ []) is in
-      subst (λ (e : Effect). arrives e ends1) (sym effect) (subst (arrives (opened_effect (w sent) from bytes answer))
-      (sym players) (At_request_port refl (has sent) repeats.0 repeats.1 occupancy.is_repeated repeats.2 (opened_so s
-      some sent).steps))
+      rw (kept) (subst (λ (e : Effect). arrives e ends1) (sym effect) (subst (arrives (opened_effect (w sent) from bytes
+      answer)) (sym players) (At_request_port refl (has sent) repeats.0 repeats.1 occupancy.is_repeated repeats.2
+      (opened_so s some sent).steps)))

@@ -6,19 +6,14 @@ use Rattle.tftp_player.proofs.Common.{Terms, datagram_action, EndState, is_compl
 use Rattle.tftp_player.proofs.Common.{Appended, GoesOn, committed_turn, holding, Files, Source, Sink, files_in}
 use Rattle.tftp_player.proofs.Common.{drafting_sink, memory_meaning, StepIn, Stored, Drafted, FileList, Endpoint}
 use Rattle.tftp_player.proofs.Common.{OpenEnd, end_after, served_end, StoredFile, has_committed, FilesAfter, ServerEnd}
+use Rattle.tftp_player.proofs.Common.{has_error_opcode, UnlessArmed, WrongPeer, dally_response, with_position}
+use Rattle.tftp_player.proofs.Common.{KeepsStore, with_file, Kept_all, kept_by, CommitsLast, IsStored}
 use Rattle.std.proofs.Common.{is_ok}
-use Rattle.tftp_wire.specs.Reading.{has_error_opcode}
-use Rattle.tftp_file.specs.Sink.{UnlessArmed, CommitsFreely}
-use Rattle.tftp_ends.specs.declared.action.Response.TheVariants.{WrongPeer}
-use Rattle.tftp_ends.specs.Receiver.{dally_response}
-use Rattle.tftp_ends.specs.Step.{after, with_position}
-use Rattle.tftp_server.specs.Draft.{DraftingBecomes, KeepsStore}
-use Rattle.tftp_store.specs.Store.{with_file}
-use Rattle.tftp_rules.proofs.SinkMoves.{Kept_all, kept_by, same_bytes, still_committed}
-use Rattle.tftp_player.specs.ServerEnd.{CommitsLast}
-use Rattle.tftp_player.specs.WorldSteps.{IsStored}
-use Rattle.tftp_player.proofs.FileLemmas.{stored_so}
-use Rattle.tftp_player.proofs.ServerTurns.{Drafts, held_files, seen}
+use Rattle.tftp_file.specs.Sink.{CommitsFreely}
+use Rattle.tftp_ends.specs.Step.{after}
+use Rattle.tftp_server.specs.Draft.{DraftingBecomes}
+use Rattle.tftp_rules.proofs.SinkMoves.{same_bytes, still_committed}
+use Rattle.tftp_player.proofs.ServerTurns.{stored_so, Drafts, held_files, seen}
 
 -- ---- a complete end does nothing more: it answers at most
 record Rests (action : Action) (from : Endpoint) (e : EndState) : Type 0 where
@@ -157,5 +152,4 @@ module _ (port : ℕ) (s : ServerEnd) (from : Endpoint) (bytes : List ℕ) (stor
       let e = s.transfer.end in
       let l = leaves_by from bytes e turn _ _ h.decoded (is_complete e.position.phase) refl k h.acts in
       record { files_after = l.files; commits = l.commits }
-  served_leaves (Source left) (Sink draft') h stays kind k = absurd kind
-  served_leaves (Sink draft) (Source left') h stays kind k = absurd kind
+  served_leaves files files' h stays kind k = absurd kind

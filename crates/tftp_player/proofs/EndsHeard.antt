@@ -1,25 +1,19 @@
 -- A sender is complete once it hears the last ACK of its peer, which is complete.
 -- For the law a_sender_hears_the_end.
 use Rattle.tftp_player.proofs.Common.{◌≡◌, ℕ, ◌+◌, ◌≤◌, Bool, true, false, not, List, Some, None, refl, sym, ap, ◌∙◌}
-use Rattle.tftp_player.proofs.Common.{subst, arith, rules, ◌≢◌, slice_get, true≢false, same_Some, Ack, Spells}
-use Rattle.tftp_player.proofs.Common.{block_count, Respond, Complete, Phase, Waiting, Sending, Receiving, Dallying}
-use Rattle.tftp_player.proofs.Common.{Closed, Terms, is_sender, outcome_of, size_of, terms_of, datagram_action}
-use Rattle.tftp_player.proofs.Common.{ack_bytes, IsUnderWay, PhaseKept, two_hosts, Endpoint, Elsewhere, Machine, Party}
-use Rattle.tftp_player.proofs.Common.{OpenEnd, peer_of, received_text, Matches, spells_own, number_fits, text_if}
-use Rattle.tftp_player.proofs.Common.{own_of, WorldState, WorldEnd, Open_end, Closed_end, datagram, end_address}
-use Rattle.tftp_player.proofs.Common.{end_record, view_of_end, Refines, IsComplete, HasPeer, WorldStep, Deliver, Report}
-use Rattle.std.proofs.Common.{◌/◌}
+use Rattle.tftp_player.proofs.Common.{subst, arith, rules, slice_get, true≢false, same_Some, Ack, Spells, block_count}
+use Rattle.tftp_player.proofs.Common.{Respond, Complete, Phase, Waiting, Sending, Receiving, Dallying, Closed, Terms}
+use Rattle.tftp_player.proofs.Common.{is_sender, outcome_of, datagram_action, ack_bytes, IsUnderWay, two_hosts}
+use Rattle.tftp_player.proofs.Common.{Endpoint, OpenEnd, peer_of, spells_own, number_fits, WorldState, WorldEnd}
+use Rattle.tftp_player.proofs.Common.{Open_end, Closed_end, datagram, end_address, end_record, Refines, IsComplete}
+use Rattle.tftp_player.proofs.Common.{HasPeer, WorldStep, Deliver, Report, ◌/◌, same_size, IsReceiver}
 use Rattle.tftp_ends.specs.End.{number_of}
-use Rattle.tftp_rules.specs.Hosts.{host_of}
-use Rattle.tftp_rules.proofs.Grows.{HasPeer as IsPeer, peer_of as peer_is}
-use Rattle.tftp_rules.proofs.Steps.{same_size}
 use Rattle.tftp_player.specs.Recovering.{SendersHearTheEnd}
-use Rattle.tftp_player.specs.WorldSafety.{IsReceiver}
 use Rattle.tftp_player.proofs.StraightActions.{from_peer, acked_last}
-use Rattle.tftp_player.proofs.StraightOpenings.{any_of}
+use Rattle.tftp_player.proofs.WorldFacts.{any_of, Peers, holds, m, match_x, match_y, near, own_x, pair, party, peer_x}
+use Rattle.tftp_player.proofs.WorldFacts.{phase_kept, size_in, text_sent}
 use Rattle.tftp_player.proofs.StraightRuns.{set_at}
-use Rattle.tftp_player.proofs.StraightSteps.{ports_of, Handles, delivered, handles_last}
-use Rattle.tftp_player.proofs.WorldFacts.{holds, m, matched, near}
+use Rattle.tftp_player.proofs.StraightSteps.{Handles, delivered, handles_last}
 
 not_false : (b : Bool) → false ≡ not b → b ≡ true
 not_false true e = refl
@@ -37,69 +31,47 @@ module _ (w v : WorldState) (ok : Refines true w) (i j k : ℕ) (report : Report
   abbrev ra : Endpoint
   ra = end_address x
 
-  abbrev party : Endpoint → Party
-  party = Machine.party (m w ok)
-
   abbrev last : ℕ
   last = (end_record x).number
 
-  at_x : Matches (view_of_end x) (party ra)
-  at_x = matched w ok j x x_at
+  -- the sender has the receiver as its peer
+  abbrev q : Peers
+  q = record { w = w; ok = ok; one = k; other = j; x = Open_end y; y = x; x_at = y_at; y_at = x_at; has = y_peer }
 
-  at_y : Matches (view_of_end (Open_end y)) (party sa)
-  at_y = matched w ok k (Open_end y) y_at
+  peer_ra : (party w ok ra).peer ≡ Some sa
+  peer_ra = (match_y q).peer ∙ x_peer
 
-  own_x : host_of ra ≢ Elsewhere
-  own_x = own_of two_hosts (m w ok) (holds w ok) ra at_x.is_open
-
-  own_y : host_of sa ≢ Elsewhere
-  own_y = own_of two_hosts (m w ok) (holds w ok) sa at_y.is_open
-
-  peer_x : (party ra).peer ≡ Some sa
-  peer_x = at_x.peer ∙ x_peer
-
-  peer_y : (party sa).peer ≡ Some ra
-  peer_y = at_y.peer ∙ y_peer
-
-  pair : IsPeer (party sa) (party ra)
-  pair = peer_is two_hosts party sa (party sa) ((holds w ok).ends sa at_y.is_open) ra peer_y own_x
-
-  takes : (party ra).sender ≡ false
-  takes = at_x.sender ∙ receives
+  takes : (party w ok ra).sender ≡ false
+  takes = (match_y q).sender ∙ receives
 
   sends : is_sender y.state.role.side ≡ true
-  sends = sym at_y.sender ∙ not_false (party sa).sender (sym takes ∙ pair.sender)
-
-  kept : PhaseKept two_hosts y y.state.position.phase
-  kept = (ok.ends k (Open_end y) y_at).stands.kept.phase
+  sends = sym (match_x q).sender ∙ not_false (party w ok sa).sender (sym takes ∙ (pair q).sender)
 
   -- the sender is at its last block
   module _ (st : Terms) (n : ℕ) (is : y.state.position.phase ≡ Sending st n) where
     way : IsUnderWay y st n
-    way = subst (λ (p : Phase). PhaseKept two_hosts y p) is kept
+    way = phase_kept w ok k y (Sending st n) y_at is
 
     peer_is_x : st.peer ≡ ra
     peer_is_x = same_Some st.peer ra (sym (ap peer_of is) ∙ y_peer)
 
-    size_x : (party ra).size ≡ st.size
-    size_x =
-        sym (same_size two_hosts (m w ok) (holds w ok) sa ra (at_y.is_open, at_x.is_open, peer_y, peer_x))
-        ∙ (at_y.size ∙ ap (λ (p : Phase). size_of (terms_of p)) is)
-
-    text_y : (party sa).text ≡ y.text
-    text_y = at_y.sent sends ∙ text_if (is_sender y.state.role.side) y.text (received_text y.state y.stored) sends
+    size_ra : (party w ok ra).size ≡ st.size
+    size_ra =
+        sym (same_size two_hosts (m w ok) (holds w ok) sa ra
+        ((match_x q).is_open, (match_y q).is_open, peer_x q, peer_ra)) ∙ size_in w ok k y (Sending st n) y_at is
 
     all_blocks : last ≡ block_count y.text st.size
     all_blocks =
-        sym at_x.number
-        ∙ ((near w ok ra at_x.is_open).whole takes (at_x.complete ∙ done) sa peer_x own_y
-        ∙ (ap (λ (t : List ℕ). block_count t (party ra).size) text_y ∙ ap (block_count y.text) size_x))
+        sym (match_y q).number
+        ∙ ((near w ok ra (match_y q).is_open).whole takes ((match_y q).complete ∙ done) sa peer_ra (own_x q)
+        ∙ (ap (λ (t : List ℕ). block_count t (party w ok ra).size) (text_sent w ok k y y_at sends)
+        ∙ ap (block_count y.text) size_ra))
 
     last_is : n ≡ last
     last_is =
-        let h = (near w ok ra at_x.is_open).stores takes sa peer_x own_y in
-        let a = at_x.number in
-        let b : (party sa).number ≡ n = at_y.number ∙ ap number_of is in
+        let h = (near w ok ra (match_y q).is_open).stores takes sa peer_ra (own_x q) in
+        let a = (match_y q).number in
+        let b : (party w ok sa).number ≡ n = (match_x q).number ∙ ap number_of is in
         let few = way.so_far in
         let all = all_blocks in omega (arith, h, a, b, few, all)
 
@@ -115,22 +87,24 @@ module _ (w v : WorldState) (ok : Refines true w) (i j k : ℕ) (report : Report
     spelled = spells_own (Ack n) (number_fits y.text st.size n way.positive way.fits few)
 
     handled : Handles w k y ra (ack_bytes n) report v
-    handled = search (rules, delivered, ports_of, last_is)
+    handled = delivered w v i k y ra (ack_bytes n) report ok.ports
+        (sent ∙ ap (λ (j : ℕ). Some (datagram ra sa (ack_bytes j))) (sym last_is)) y_at step
 
     does : datagram_action y.state ra (ack_bytes n) (Some (Ack n)) ≡ Respond Complete
     does = search (rules, from_peer, peer_is_x, acked_last, none_left)
 
     completes : (z : WorldEnd) × (slice_get v.ends k ≡ Some z) × IsComplete z
     completes =
-        let h = handles_last w v k y ra (ack_bytes n) report handled (Ack n) spelled does in
+        let h = handles_last handled (Ack n) spelled does in
         (h.0, set_at w v k (Open_end y) h.0 h.3 y_at, h.1)
 
   -- it has a peer, and sends
   hears : (p : Phase) → y.state.position.phase ≡ p → (z : WorldEnd) × (slice_get v.ends k ≡ Some z) × IsComplete z
   hears (Waiting asked limit) is = absurd (let f : None ≡ Some ra = sym (ap peer_of is) ∙ y_peer in cc)
   hears (Sending st n) is = completes st n is
-  hears (Receiving rt n) is = absurd (true≢false (sym sends ∙ (subst (λ p. PhaseKept two_hosts y p) is kept).0))
-  hears (Dallying rt n dally) is = absurd (true≢false (sym sends ∙ (subst (λ p. PhaseKept two_hosts y p) is kept).0))
+  hears (Receiving rt n) is = absurd (true≢false (sym sends ∙ (phase_kept w ok k y (Receiving rt n) y_at is).0))
+  hears (Dallying rt n dally) is =
+      absurd (true≢false (sym sends ∙ (phase_kept w ok k y (Dallying rt n dally) y_at is).0))
   hears (Closed terms n complete outcome) is =
       absurd (let f : Some outcome ≡ None = sym (ap outcome_of is) ∙ (ok.ends k (Open_end y) y_at).stands.still in cc)
 

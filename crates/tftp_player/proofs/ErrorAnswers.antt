@@ -1,18 +1,60 @@
 -- A turn that sends an ERROR to its peer closes the end, because its store refused.
--- For ErrorsKnown.
-use Rattle.tftp_player.proofs.Common.{◌≡◌, ℕ, Bool, true, List, Option, Some, None, refl, rules, ◌≢◌, Packet}
-use Rattle.tftp_player.proofs.Common.{StoreFault, Action, Respond, Response, Retransmit, DiskFull, Outcome, Fresh}
-use Rattle.tftp_player.proofs.Common.{Phase, Sending, Receiving, Dallying, EndState, terms_of, outcome_of, Position}
+-- For ErrorsKnown and ErrorsHeard.
+use Rattle.tftp_player.proofs.Common.{◌≡◌, ℕ, Bool, true, false, List, Option, Some, arith, rules, Packet, Error}
+use Rattle.tftp_player.proofs.Common.{Action, Respond, Response, Terms, EndState, terms_of, is_wrong_peer}
+use Rattle.tftp_player.proofs.Common.{datagram_action, ack_bytes, data_bytes, Endpoint, Blames, MayTake, datagram_takes}
+use Rattle.tftp_player.proofs.Common.{WrongPeer, Refuse, None, refl, ◌≢◌, StoreFault, Retransmit, DiskFull, Outcome}
+use Rattle.tftp_player.proofs.Common.{Fresh, Phase, Sending, Receiving, Dallying, outcome_of, Position}
 use Rattle.tftp_player.proofs.Common.{timeout_response, Turn, Reply, AcksAgain, holding, response_turn, sent_turn}
-use Rattle.tftp_player.proofs.Common.{refused_turn, commit_reply, ack_bytes, data_bytes, error_bytes, Endpoint}
-use Rattle.tftp_player.proofs.Common.{At_server, Elsewhere, peer_of, Blames, TurnBy, Responds, Sends_data, Has_stored}
-use Rattle.tftp_file.specs.declared.fault.StoreFault.TheVariants.{Full}
-use Rattle.tftp_ends.specs.declared.error_reply.ErrorReply.TheVariants.{FileChanged, UnknownTransferId}
+use Rattle.tftp_player.proofs.Common.{refused_turn, commit_reply, error_bytes, At_server, Elsewhere, peer_of, TurnBy}
+use Rattle.tftp_player.proofs.Common.{Responds, Sends_data, Has_stored, Full, UnknownTransferId, host_of}
+use Rattle.tftp_ends.specs.declared.action.Response.TheVariants.{Close}
 use Rattle.tftp_ends.specs.declared.outcome.Outcome.TheVariants as outcomes
-use Rattle.tftp_rules.specs.Hosts.{host_of}
-use Rattle.tftp_player.proofs.BlamelessEnds.{Blameless}
-use Rattle.tftp_player.proofs.ErrorReasons.{IsErr, Tells, TellsBy, no_ack, no_data}
+use Rattle.tftp_player.proofs.SentAgain.{second}
+use Rattle.tftp_ends.specs.declared.error_reply.ErrorReply.TheVariants.{FileChanged}
+use Rattle.tftp_player.proofs.Blameless.{Blameless}
 use Rattle.tftp_rules.proofs.TurnCases.{Cannot_read, Has_all, Cannot_append, Cannot_commit}
+
+-- the bytes of an ERROR
+abbrev pub IsErr : List ℕ → Type 0
+IsErr bytes = second bytes ≡ 5
+
+-- DATA is no ERROR
+pub no_data : (n : ℕ) (piece : List ℕ) → IsErr (data_bytes n piece) → ⊥
+no_data n piece e = let z : ◌≡◌ {A = ℕ} 3 5 = e in omega (arith, z)
+
+-- an ACK is no ERROR
+pub no_ack : (n : ℕ) → IsErr (ack_bytes n) → ⊥
+no_ack n e = let z : ◌≡◌ {A = ℕ} 4 5 = e in omega (arith, z)
+
+-- the packet is an ERROR of this code
+abbrev pub IsErrorOf : ℕ → Option Packet → Type 0
+IsErrorOf code decoded = (text : List ℕ) × (decoded ≡ Some (Error code text))
+
+-- ---- what an action says of the datagram that it is for
+module _ (known : Option Terms) (wrong : Bool) (decoded : Option Packet) where
+  -- why this response sends an ERROR, or closes because of one
+  abbrev pub Tells : Response → Type 0
+  Tells (Close outcome) =
+      (t : Terms) → known ≡ Some t → (code : ℕ) → outcome ≡ outcomes.PeerError code →
+      (wrong ≡ false) × IsErrorOf code decoded
+  Tells (Refuse terms reply outcome) = Blames outcome
+  Tells WrongPeer = wrong ≡ true
+  Tells response = Unit {0}
+
+  -- the same of an action
+  abbrev pub TellsBy : Action → Type 0
+  TellsBy (Respond response) = Tells response
+  TellsBy action = Unit {0}
+
+  tells : (from : Endpoint) (action : Action) → MayTake known from decoded wrong action → TellsBy action
+  tells from action h2 = search rules
+
+-- so it is of the action on each datagram
+pub datagram_tells : (e : EndState) (from : Endpoint) (bytes : List ℕ) (decoded : Option Packet) →
+    TellsBy (terms_of e.position.phase) (is_wrong_peer (terms_of e.position.phase) e.position.last_sent_to from) decoded
+    (datagram_action e from bytes decoded)
+datagram_tells e from bytes decoded = tells _ _ _ _ _ (datagram_takes e from bytes decoded)
 
 -- the bytes of the ERROR for a fault of a store
 abbrev pub IsRefusal : List ℕ → Type 0

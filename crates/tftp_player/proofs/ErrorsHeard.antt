@@ -3,20 +3,19 @@
 use Rattle.tftp_player.proofs.Common.{◌≡◌, ℕ, Bool, true, false, List, [], ◌∷◌, ◌++◌, Option, Some, None, refl, sym, ap}
 use Rattle.tftp_player.proofs.Common.{◌∙◌, subst, inl, inr, rules, ◌≢◌, ◌⊎◌, slice_get, Contains, Contains-append_left}
 use Rattle.tftp_player.proofs.Common.{Spells, Packet, Error, StoreFault, Files, memory_source, Holding, Action}
-use Rattle.tftp_player.proofs.Common.{Response, Complete, Outcome, Terms, EndState, is_client, terms_of, outcome_of}
-use Rattle.tftp_player.proofs.Common.{is_wrong_peer, datagram_action, Turn, response_turn, commit_reply, error_bytes}
-use Rattle.tftp_player.proofs.Common.{two_hosts, Endpoint, Elsewhere, OpenEnd, end_after, peer_of, own_of, Blames}
-use Rattle.tftp_player.proofs.Common.{WorldState, WorldEnd, Open_end, Closed_end, standing, datagram, in_the_way}
-use Rattle.tftp_player.proofs.Common.{file_at, new_world, end_address, end_record, Refines, PlaysAll, may_refuse_commit}
-use Rattle.tftp_player.proofs.Common.{armed_end, world_sink, Datagram, Event, TurnBy, acts_by}
+use Rattle.tftp_player.proofs.Common.{Response, Outcome, Terms, EndState, terms_of, outcome_of, is_wrong_peer}
+use Rattle.tftp_player.proofs.Common.{datagram_action, Turn, response_turn, commit_reply, error_bytes, two_hosts}
+use Rattle.tftp_player.proofs.Common.{Endpoint, Elsewhere, OpenEnd, end_after, peer_of, own_of, Blames, WorldState}
+use Rattle.tftp_player.proofs.Common.{WorldEnd, Open_end, Closed_end, standing, datagram, new_world, end_address}
+use Rattle.tftp_player.proofs.Common.{end_record, Refines, PlaysAll, Datagram, Event, TurnBy, acts_by, host_of}
+use Rattle.tftp_player.proofs.Common.{says_spelled}
 use Rattle.tftp_ends.specs.declared.outcome.Outcome.TheVariants as outcomes
-use Rattle.tftp_rules.specs.Hosts.{host_of}
-use Rattle.tftp_rules.proofs.SaidLemmas.{says_spelled}
 use Rattle.tftp_player.specs.Closing.{MayCloseAs, EstablishedEndsCloseSo}
 use Rattle.tftp_player.proofs.AnsweringEnds.{reached_ok}
 use Rattle.tftp_player.proofs.Blameless.{none_is_blamed}
-use Rattle.tftp_player.proofs.EndsCame.{Came, Was, Opened, Armed, Timed, Took, came}
-use Rattle.tftp_player.proofs.ErrorReasons.{IsErrorOf, Tells, TellsBy, datagram_tells}
+use Rattle.tftp_player.proofs.Changes.{IsTurn, At_timeout, At_datagram, Came, Was, Began, Was_armed, Moved, event_came}
+use Rattle.tftp_player.proofs.Changes.{armed_has}
+use Rattle.tftp_player.proofs.ErrorAnswers.{IsErrorOf, Tells, TellsBy, datagram_tells}
 use Rattle.tftp_player.proofs.ErrorsKnown.{refusals_are_told}
 use Rattle.tftp_player.proofs.OneLemmas.{events_add_one_at_most}
 use Rattle.tftp_rules.proofs.StorableBlocks.{the_peer}
@@ -77,27 +76,23 @@ stands_by : (w : WorldState) (x : OpenEnd) (turn : Turn) (held : Files (List ℕ
     ClosedByPeer w (standing (end_after x turn held))
 stands_by w x turn held h = search rules
 
-armed_by : (w : WorldState) (z : WorldEnd) → ClosedByPeer w z → ClosedByPeer w (armed_end z)
-armed_by w (Open_end x) h = tt
-armed_by w (Closed_end x) h = h
-
-came_by : (w : WorldState) → Refines true w → AllByPeer w → (j : ℕ) (z : WorldEnd) → Came w j z → ClosedByPeer w z
+came_by : (w : WorldState) → Refines true w → AllByPeer w → (j : ℕ) (z : WorldEnd) → Came (IsTurn w) w j z →
+    ClosedByPeer w z
 came_by w ok h j z (Was y i) = h j y i
-came_by w ok h j z (Opened x n) = tt
-came_by w ok h j z (Armed y i) = armed_by w y (h j y i)
-came_by w ok h j z (Timed x held i) =
+came_by w ok h j z (Began x none o) = tt
+came_by w ok h j z (Was_armed y i) = armed_has (ClosedByPeer w) (λ x n. n) y (h j y i)
+came_by w ok h j z (Moved x _ _ i At_timeout) =
     let e = x.state in
     let still = (ok.ends j (Open_end x) i).stands.still in
     search rules
-came_by w ok h j z (Took x from bytes turn held i arrives d) =
+came_by w ok h j z (Moved x _ _ i (At_datagram from bytes turn held arrives d)) =
     let e = x.state in
-    let still = (ok.ends j (Open_end x) i).stands.still in
     let wrong = is_wrong_peer (terms_of e.position.phase) e.position.last_sent_to from in
+    let action = datagram_action e from bytes d.decoded in
     stands_by w x turn held (λ code p o is own.
     let r =
-    turn_hears e wrong d.decoded still from (datagram_action e from bytes d.decoded) turn (datagram_tells e from bytes
-    d.decoded) (acts_by memory_source (world_sink (may_refuse_commit (is_client e.role.side) (in_the_way w.overwrite
-    (file_at w.files x.path)))) from bytes e (datagram_action e from bytes d.decoded) _ held turn d.acts) code p o is in
+    turn_hears e wrong d.decoded (ok.ends j (Open_end x) i).stands.still from action turn (datagram_tells e from bytes
+    d.decoded) (acts_by memory_source _ from bytes e action _ held turn d.acts) code p o is in
     let sender : from ≡ p =
     sym (the_peer r.0 e.position.last_sent_to from (sym (ap (λ (t : Option Terms). is_wrong_peer t
     e.position.last_sent_to from) r.1) ∙ r.3)) ∙ r.2 in
@@ -131,7 +126,7 @@ run_by (event ∷ events) w v ok h r =
     let mid = r.0 in
     let adds = events_add_one_at_most w mid event r.1 r.2 in
     run_by events mid v (step_keeps true w mid event r.1 tt ok r.2)
-    (λ k z i. later_by w mid adds.said adds.sent z (came_by w ok h k z (came w mid event r.1 r.2 k z i))) r.3
+    (λ k z i. later_by w mid adds.said adds.sent z (came_by w ok h k z (event_came w mid event r.1 r.2 k z i))) r.3
 
 refused_by : (code : ℕ) (text bytes : List ℕ) (fault : StoreFault) → Spells (Error code text) bytes →
     bytes ≡ error_bytes (commit_reply fault) → (code ≡ 3) ⊎ (code ≡ 6)
@@ -167,8 +162,4 @@ established_ends_close_so w k x y outcome reached there at_y peer back is = by o
   by outcomes.TimedOut e = tt
   by outcomes.StoreFault e = tt
   by (outcomes.PeerError code) e = told code e
-  by outcomes.Illegal e = absurd (blames outcomes.Illegal e tt)
-  by outcomes.NotNetascii e = absurd (blames outcomes.NotNetascii e tt)
-  by outcomes.TooLarge e = absurd (blames outcomes.TooLarge e tt)
-  by (outcomes.Refused refusal) e = absurd (blames (outcomes.Refused refusal) e tt)
-  by outcomes.SourceFault e = absurd (blames outcomes.SourceFault e tt)
+  by o e = absurd (blames o e tt)

@@ -1,7 +1,6 @@
 -- A sender that hears the last ACK of its peer, computed. For the law a_sender_hears_the_end, which is then of some
 -- world.
 use Rattle.tftp_player.proofs.Common.{false, refl, arith, slice_get, WorldState, Refines, Deliver}
-use Rattle.tftp_negotiate.specs.Negotiation.{occurrences_of}
 use Rattle.tftp_negotiate.specs.declared.known.Kind.TheVariants.{Read}
 use Rattle.tftp_player.specs.Recovering.{SomeSenderHearsTheEnd}
 use Rattle.tftp_player.proofs.SampleDeliveries.{delivers, next}
@@ -9,6 +8,7 @@ use Rattle.tftp_player.proofs.WorldRuns.{new_ok, step_keeps}
 use Rattle.tftp_player.proofs.Witness.{config, asked_world, asks, files_for, begun_world, event_for, new_world_for}
 use Rattle.tftp_player.proofs.Witness.{opens}
 use Rattle.tftp_player.proofs.Witnesses.{read, read_runs}
+use Rattle.tftp_negotiate.specs.Negotiation.{occurrences_of}
 
 -- ---- the last ACK of a read of one block is heard
 -- the world in which the client is complete, and the server's end is not

@@ -4,9 +4,8 @@ use Rattle.tftp_player.proofs.Common.{◌≡◌, ℕ, zero, suc, ◌+◌, ◌<�
 use Rattle.tftp_player.proofs.Common.{sym, ap, ◌∙◌, subst, arith, rules, slice_get, slice_set, slice_index_or}
 use Rattle.tftp_player.proofs.Common.{same_Some, Record, Endpoint, EndTakes, records_from, PlayedServer}
 use Rattle.tftp_player.proofs.Common.{ArePartsConsistent, world_of, StoredFile, WorldEnd, end_address, end_record}
-use Rattle.tftp_player.proofs.Common.{Effect}
+use Rattle.tftp_player.proofs.Common.{Effect, EndTimesOut}
 use Rattle.std.proofs.lemmas.Option.{slice_get_read}
-use Rattle.tftp_player.specs.EndSteps.{EndTimesOut}
 use Rattle.tftp_player.proofs.SentLemmas.{records_count}
 use Rattle.tftp_player.proofs.WorldTurns.{ports_set, ports_push}
 

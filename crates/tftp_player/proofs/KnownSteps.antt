@@ -1,12 +1,10 @@
 -- The step of an end with a file in memory is one with a file of known content, and an answer from the server's
--- address is from the server. For BlamelessEnds and WorldRuns.
-use Rattle.tftp_player.proofs.Common.{ℕ, List, sym, rules, memory_source, Holding, StoreFault, Files, Source, Sink}
-use Rattle.tftp_player.proofs.Common.{EndState, Turn, DatagramStep, request_port, two_hosts, Endpoint, OpenEnd}
-use Rattle.tftp_player.proofs.Common.{host_server, world_sink}
-use Rattle.tftp_ends.specs.OtherSinks.{SourcesModel, SinksModel, step_as}
+-- address is from the server. For Blameless and WorldRuns.
+use Rattle.tftp_player.proofs.Common.{ℕ, List, sym, rules, memory_source, Holding, StoreFault, Files, Source, EndState}
+use Rattle.tftp_player.proofs.Common.{Turn, DatagramStep, request_port, two_hosts, Endpoint, OpenEnd, host_server}
+use Rattle.tftp_player.proofs.Common.{world_sink, SourcesModel, SinksModel, step_as, same_ips, Sink}
 use Rattle.tftp_rules.specs.EndKept.{IsFromServer}
 use Rattle.tftp_rules.specs.KnownFiles.{known_source, known_sink}
-use Rattle.tftp_rules.proofs.PhaseMoves.{same_ips}
 
 -- an answer from the address of the request port is from the server
 pub from_server : (x : OpenEnd) (from : Endpoint) (bytes : List ℕ) → IsFromServer two_hosts x from bytes

@@ -2,6 +2,7 @@ pub mod Common
 pub mod Standing
 pub mod KnownSteps
 pub mod Measured
+pub mod Changes
 pub mod OneLemmas
 pub mod StrangerLemmas
 pub mod SampleDeliveries
@@ -9,8 +10,7 @@ pub mod Witness
 pub mod Witnesses
 pub mod SentLemmas
 pub mod ServerLemmas
-pub mod FileLemmas
-pub mod ServerTurns
+mod ServerTurns
 pub mod DraftLemmas
 pub mod StepLemmas
 pub mod UnansweredLemmas
@@ -34,30 +34,23 @@ mod RunsLeft
 mod StraightRuns
 mod StraightPort
 mod StraightOpenings
-mod EndsCame
 mod NewestKept
 mod SentAgain
 mod WorldFacts
 mod RecoveringRuns
 mod AnsweringEnds
-mod FirstAnswers
-mod RecoveringReads
-mod RecoveringWrites
+mod RecoveringAnswers
 mod RecoveriesSettled
 mod RecoveringWitness
 mod AnsweringWitness
 mod OacksTaken
-mod BlamelessEnds
 mod Blameless
-mod ErrorReasons
 mod ErrorAnswers
 mod ErrorsKnown
 mod ErrorsHeard
 mod RefusedWitness
 mod RequestArrives
 mod EndsHeard
-mod EndsStay
-mod OldDatagrams
 mod HeardWitness
 mod RecoveringRequests
 pub mod SettledLemmas

@@ -1,19 +1,16 @@
 -- What an open end sent last: a sender its newest block, or the OACK before its first.
 -- For RecoveringRuns.
-use Rattle.tftp_player.proofs.Common.{◌≡◌, ℕ, suc, zero, Bool, true, false, List, [], ◌∷◌, Option, Some, None, refl}
-use Rattle.tftp_player.proofs.Common.{sym, subst, rules, ◌≢◌, if◌then◌else◌, slice_get, canonical, Mode, RawOption}
-use Rattle.tftp_player.proofs.Common.{Packet, Oack, agreed_options, Known, memory_source, StoreFault, Files, Source}
-use Rattle.tftp_player.proofs.Common.{Sink, Holding, Action, Respond, Send, Store, Response, Accept, Outcome, Phase}
-use Rattle.tftp_player.proofs.Common.{Waiting, Sending, Receiving, Dallying, Closed, Terms, EndState, is_sender}
-use Rattle.tftp_player.proofs.Common.{is_client, Position, datagram_action, serving_read, Turn, DatagramStep}
-use Rattle.tftp_player.proofs.Common.{response_turn, data_bytes, timeout_turn, Endpoint, OpenEnd, end_after}
-use Rattle.tftp_player.proofs.Common.{slice_get-set_cases, slice_get-push_cases, Service, Silent, Refused, Sends, Takes}
-use Rattle.tftp_player.proofs.Common.{WorldState, WorldEnd, Open_end, Closed_end, by_outcome, StoredFile, new_world}
-use Rattle.tftp_player.proofs.Common.{PlaysAll, world_sink, WorldStep, ServiceStep, Delivery, At_request_port}
-use Rattle.tftp_player.proofs.Common.{At_open_end, At_closed_end, At_nobody, OpeningStep, Stays, Turns, TimeoutStep}
-use Rattle.tftp_player.proofs.Common.{armed_end, Event, Get, Put, Deliver, Timeout, RefuseStore, Stray, Report, Config}
-use Rattle.tftp_player.proofs.Common.{MayTake, datagram_takes, TurnBy, Responds, Sends_data, Has_stored, acts_by}
-use Rattle.tftp_ends.specs.Opening.{serving_write}
+use Rattle.tftp_player.proofs.Common.{◌≡◌, ℕ, suc, zero, Bool, true, List, [], ◌∷◌, Option, Some, None, refl, sym}
+use Rattle.tftp_player.proofs.Common.{subst, rules, ◌≢◌, slice_get, canonical, Mode, RawOption, Packet, Oack}
+use Rattle.tftp_player.proofs.Common.{agreed_options, Known, memory_source, StoreFault, Files, Holding, Action, Respond}
+use Rattle.tftp_player.proofs.Common.{Send, Store, Response, Accept, Outcome, Phase, Waiting, Sending, Receiving}
+use Rattle.tftp_player.proofs.Common.{Dallying, Closed, Terms, EndState, is_client, Position, datagram_action}
+use Rattle.tftp_player.proofs.Common.{serving_read, Turn, DatagramStep, response_turn, data_bytes, timeout_turn}
+use Rattle.tftp_player.proofs.Common.{Endpoint, OpenEnd, end_after, WorldState, WorldEnd, Open_end, Closed_end}
+use Rattle.tftp_player.proofs.Common.{by_outcome, StoredFile, new_world, PlaysAll, world_sink, Event, Config, MayTake}
+use Rattle.tftp_player.proofs.Common.{datagram_takes, TurnBy, Responds, Sends_data, Has_stored, acts_by, files_of}
+use Rattle.tftp_player.proofs.Changes.{IsOpening, Reads, Writes, Serves_read, Serves_write, IsTurn, Came, Was, Began}
+use Rattle.tftp_player.proofs.Changes.{Was_armed, Moved, event_came, armed_has, At_timeout, At_datagram}
 
 -- the newest datagram of a sender at this number
 abbrev pub IsNewest : List ℕ → ℕ → Type 0
@@ -88,25 +85,11 @@ outcome_newest : (o : Option Outcome) (x : OpenEnd) → EndNewest (Open_end x) �
 outcome_newest None x h = h
 outcome_newest (Some outcome) x h = tt
 
-after_newest : (x : OpenEnd) (turn : Turn) (held : Files (List ℕ) Holding) →
-    Newest (is_client x.state.role.side) turn.position.last_sent turn.position.phase →
-    EndNewest (Open_end (end_after x turn held))
-after_newest x turn (Source left) h = h
-after_newest x turn (Sink sink) h = h
-
-stays_newest : (old new : WorldState) (report : Report) → AllNewest old → Stays old report new → AllNewest new
-stays_newest old new report h s = subst AllNewest (sym s.is) h
-
-turn_newest : (old new : WorldState) (k : ℕ) (x : OpenEnd) (turn : Turn) (held : Files (List ℕ) Holding)
-    (report : Report) → AllNewest old →
-    Newest (is_client x.state.role.side) turn.position.last_sent turn.position.phase →
-    Turns old k x turn held report new → AllNewest new
-turn_newest old new k x turn held report h n t j z i =
-    search (rules, slice_get-set_cases, outcome_newest, after_newest)
-
-opening_newest : (old new : WorldState) (x : OpenEnd) (report : Report) → AllNewest old → EndNewest (Open_end x) →
-    OpeningStep old x report new → AllNewest new
-opening_newest old new x report h n o j z i = search (rules, slice_get-push_cases)
+turn_newest : (w : WorldState) (x : OpenEnd) (turn : Turn) (held : Files (List ℕ) Holding) → EndNewest (Open_end x) →
+    IsTurn w x turn held → EndNewest (Open_end (end_after x turn held))
+turn_newest w x turn held h At_timeout = timeout_has (is_client x.state.role.side) x.state h
+turn_newest w x turn held h (At_datagram from bytes t files a d) =
+    step_has (is_client x.state.role.side) _ from bytes x.state (files_of x) files t h d
 
 read_newest : (agreed : List Known) (peer : Endpoint) (mode : Mode) (count retries : ℕ) (piece : List ℕ) →
     let e = serving_read agreed peer mode count retries piece in
@@ -114,60 +97,24 @@ read_newest : (agreed : List Known) (peer : Endpoint) (mode : Mode) (count retri
 read_newest [] peer mode count retries piece = (piece, refl)
 read_newest (known ∷ others) peer mode count retries piece = (agreed_options (known ∷ others), refl)
 
-write_newest : (agreed : List Known) (peer : Endpoint) (mode : Mode) (retries : ℕ) →
-    let e = serving_write agreed peer mode retries in
-    Newest (is_client e.role.side) e.position.last_sent e.position.phase
-write_newest agreed peer mode retries = search rules
+opening_newest : (w : WorldState) (x : OpenEnd) → IsOpening w x → EndNewest (Open_end x)
+opening_newest w x (Reads name mode asked) = tt
+opening_newest w x (Writes name mode asked file) = tt
+opening_newest w x (Serves_read peer request mode path file agreed) = read_newest agreed peer mode _ _ _
+opening_newest w x (Serves_write peer request mode path agreed) = search rules
 
-service_newest : (service : Service) (old new : WorldState) (from : Endpoint) (bytes : List ℕ) (report : Report) →
-    AllNewest old → ServiceStep service old from bytes report new → AllNewest new
-service_newest Silent old new from bytes report h s = stays_newest old new report h s
-service_newest (Refused reply) old new from bytes report h s = subst AllNewest (sym s.1) h
-service_newest (Sends path mode count agreed) old new from bytes report h s =
-    opening_newest old new _ report h (read_newest agreed from mode _ _ _) s.2
-service_newest (Takes path mode agreed) old new from bytes report h s =
-    opening_newest old new _ report h (write_newest agreed from mode _) s
-
-arrives_newest : (old new : WorldState) (from to : Endpoint) (bytes : List ℕ) (report : Report) → AllNewest old →
-    Delivery old from to bytes report new → AllNewest new
-arrives_newest old new from to bytes report h (At_request_port here port decoded says repeated same served) =
-    service_newest _ old new from bytes report h served
-arrives_newest old new from to bytes report h (At_open_end k x there at takes) =
-    turn_newest old new k x takes.turn takes.held report h
-    (step_has (is_client x.state.role.side) _ from bytes x.state _ takes.held takes.turn (h k (Open_end x) there)
-    takes.steps) takes.turns
-arrives_newest old new from to bytes report h (At_closed_end k x there at s) = stays_newest old new report h s
-arrives_newest old new from to bytes report h (At_nobody away nobody s) = stays_newest old new report h s
-
-timeout_newest : (old new : WorldState) (k : ℕ) (x : WorldEnd) (report : Report) → AllNewest old →
-    slice_get old.ends k ≡ Some x → TimeoutStep old k x report new → AllNewest new
-timeout_newest old new k (Closed_end x) report h there s = stays_newest old new report h s
-timeout_newest old new k (Open_end x) report h there t =
-    turn_newest old new k x _ _ report h (timeout_has (is_client x.state.role.side) x.state (h k (Open_end x) there)) t
-
-armed_if : (b : Bool) (x : OpenEnd) → EndNewest (Open_end x) →
-    EndNewest (Open_end (if b then x else record x { refuses = true }))
-armed_if true x h = h
-armed_if false x h = h
-
-armed_newest : (x : WorldEnd) → EndNewest x → EndNewest (armed_end x)
-armed_newest (Open_end x) h = armed_if (is_sender x.state.role.side) x h
-armed_newest (Closed_end x) h = h
-
--- each event keeps it
-pub step_newest : (old new : WorldState) (event : Event) (report : Report) → AllNewest old →
-    WorldStep old event report new → AllNewest new
-step_newest old new (Get name mode asked) report h s = opening_newest old new _ report h tt s.2
-step_newest old new (Put name mode asked bytes) report h s = opening_newest old new _ report h tt s.2
-step_newest old new (Deliver i) report h s = arrives_newest old new _ _ _ report h s.2
-step_newest old new (Timeout port) report h s = timeout_newest old new s.0 s.1 report h s.2.there s.3
-step_newest old new (RefuseStore port) report h s = search (rules, slice_get-set_cases, armed_newest)
-step_newest old new (Stray from to bytes) report h s = arrives_newest old new _ _ _ report h s.1
+came_newest : (w : WorldState) → AllNewest w → (j : ℕ) (z : WorldEnd) → Came (IsTurn w) w j z → EndNewest z
+came_newest w h j z (Was y i) = h j y i
+came_newest w h j z (Began x none o) = opening_newest w x o
+came_newest w h j z (Was_armed y i) = armed_has EndNewest (λ x n. n) y (h j y i)
+came_newest w h j z (Moved x turn held i t) =
+    outcome_newest _ (end_after x turn held) (turn_newest w x turn held (h j (Open_end x) i) t)
 
 -- so it is after all events
 pub run_newest : (events : List Event) (old new : WorldState) → AllNewest old → PlaysAll old events new → AllNewest new
 run_newest [] old new h r = subst AllNewest (sym r) h
-run_newest (event ∷ events) old new h r = run_newest events r.0 new (step_newest old r.0 event r.1 h r.2) r.3
+run_newest (event ∷ events) old new h r =
+    run_newest events r.0 new (λ k z i. came_newest old h k z (event_came old r.0 event r.1 r.2 k z i)) r.3
 
 -- a new world has no ends
 pub new_newest : (files : List StoredFile) (config : Config) → AllNewest (new_world files config)

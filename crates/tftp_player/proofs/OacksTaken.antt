@@ -1,25 +1,46 @@
 -- A client that took no OACK has a peer that was opened without options.
--- For BlamelessActions, Blameless and ErrorsKnown.
-use Rattle.tftp_player.proofs.Common.{◌≡◌, ℕ, Bool, true, false, List, Option, Some, None, refl, sym, ap, ◌∙◌, subst}
-use Rattle.tftp_player.proofs.Common.{rules, ◌≢◌, if◌then◌else◌, option_map, slice_get, Contains, true≢false, Packet}
-use Rattle.tftp_player.proofs.Common.{Asked, memory_source, Files, Holding, Phase, Waiting, Sending, Receiving}
-use Rattle.tftp_player.proofs.Common.{Dallying, Closed, Terms, is_sender, is_client, terms_of, outcome_of, Decodes}
-use Rattle.tftp_player.proofs.Common.{is_wrong_peer, Turn, timeout_turn, default_terms, PhaseKept, two_hosts, Endpoint}
-use Rattle.tftp_player.proofs.Common.{At_server, Elsewhere, Machine, Party, OpenEnd, end_after, files_of, host_server}
-use Rattle.tftp_player.proofs.Common.{own_of, WorldState, WorldEnd, Open_end, Closed_end, standing, datagram}
-use Rattle.tftp_player.proofs.Common.{in_the_way, file_at, Refines, world_sink, may_refuse_commit, WorldStep, armed_end}
-use Rattle.tftp_player.proofs.Common.{Event, Report}
+-- For Blameless and ErrorsKnown.
+use Rattle.tftp_player.proofs.Common.{true, sym, subst, rules, two_hosts, Machine, WorldState, Refines, WorldStep}
+use Rattle.tftp_player.proofs.Common.{Event, Report, start, AllGrow, ◌≡◌, ℕ, false, List, Option, Some, None, refl, ap}
+use Rattle.tftp_player.proofs.Common.{◌∙◌, ◌≢◌, option_map, slice_get, Contains, true≢false, Packet, Asked}
+use Rattle.tftp_player.proofs.Common.{memory_source, Files, Holding, Phase, Waiting, Sending, Receiving, Dallying}
+use Rattle.tftp_player.proofs.Common.{Closed, Terms, is_client, terms_of, outcome_of, Decodes, is_wrong_peer, Turn}
+use Rattle.tftp_player.proofs.Common.{timeout_turn, default_terms, PhaseKept, Endpoint, At_server, Elsewhere, Party}
+use Rattle.tftp_player.proofs.Common.{OpenEnd, end_after, files_of, host_server, own_of, WorldEnd, Open_end, Closed_end}
+use Rattle.tftp_player.proofs.Common.{standing, datagram, same_address, host_of, IsBlockSize, Config, StoredFile}
+use Rattle.tftp_player.proofs.Common.{new_world}
+use Rattle.tftp_rules.proofs.RulesGrow.{legal_rest, run_grows}
+use Rattle.tftp_rules.proofs.Runs.{run_then}
+use Rattle.tftp_player.proofs.WorldFacts.{holds, m, matched, attests}
+use Rattle.tftp_player.proofs.WorldRuns.{steps_are_rules, new_ok}
 use Rattle.std.specs.Cmp.Lexicographic.{same_text}
-use Rattle.tftp_ends.specs.Action.{same_address}
-use Rattle.tftp_rules.specs.Hosts.{host_of}
-use Rattle.tftp_rules.proofs.Grows.{AllGrow}
 use Rattle.tftp_rules.proofs.ActionCases.{IsPlainAnswer}
 use Rattle.tftp_rules.proofs.PlainPeers.{HasPlainPeer, plain_answer as answers_plainly}
 use Rattle.tftp_rules.proofs.Steps.{own_server}
 use Rattle.tftp_rules.proofs.TermsTaken.{step_are, timeout_are}
-use Rattle.tftp_player.proofs.EndsCame.{Came, Was, Opened, Armed, Timed, Took, Arrives, came}
-use Rattle.tftp_player.proofs.WorldFacts.{m, holds, matched, attests}
-use Rattle.tftp_player.proofs.EndsStay.{grown}
+use Rattle.tftp_player.proofs.Changes.{Arrives, IsOpening, IsTurn, At_timeout, At_datagram, Came, Was, Began, Was_armed}
+use Rattle.tftp_player.proofs.Changes.{Moved, event_came, armed_has}
+
+-- ---- an event is more rules, by which the ends of the machine go on
+-- the world refines the rules, and each of its ends has gone on
+pub record Grown (w v : WorldState) (ok : Refines true w) : Type 0 where
+  pub now : Refines true v
+  pub grows : AllGrow (Machine.party (m w ok)) (Machine.party (m v now))
+
+-- a step of a world only adds to what was sent, and changes ends as a step of each may
+pub grown : (w v : WorldState) (event : Event) (report : Report) (ok : Refines true w) → WorldStep w event report v →
+    Grown w v ok
+grown w v event report ok s =
+    let next = steps_are_rules true w v event report tt ok s in
+    let first = ok.shown.0 in
+    let more = next.shown.0 in
+    let now : Refines true v = search rules in
+    record {
+      now = now;
+      grows =
+          subst (λ (u : Machine). AllGrow (Machine.party (m w ok)) u.party) (sym (run_then two_hosts first more start))
+          (run_grows two_hosts more (m w ok) (holds w ok) (legal_rest two_hosts first more start next.shown.2.0));
+    }
 
 -- ---- the clients of a world
 -- a client that took no OACK has such a peer, if the end is open
@@ -40,14 +61,10 @@ stands_plain : (ends : Endpoint → Party) (x : OpenEnd) (turn : Turn) (held : F
     PlainEnd ends (standing (end_after x turn held))
 stands_plain ends x turn held h = search rules
 
-armed_if : (ends : Endpoint → Party) (b : Bool) (x : OpenEnd) → PlainEnd ends (Open_end x) →
-    PlainEnd ends (Open_end (if b then x else record x { refuses = true }))
-armed_if ends true x h = h
-armed_if ends false x h = h
-
-armed_plain : (ends : Endpoint → Party) (z : WorldEnd) → PlainEnd ends z → PlainEnd ends (armed_end z)
-armed_plain ends (Open_end x) h = armed_if ends (is_sender x.state.role.side) x h
-armed_plain ends (Closed_end x) h = tt
+-- a client that opens has no peer yet
+no_terms : (w : WorldState) (x : OpenEnd) → IsOpening w x → is_client x.state.role.side ≡ true →
+    terms_of x.state.position.phase ≡ None
+no_terms w x o c = search rules
 
 module _ (w : WorldState) (ok : Refines true w) where
   abbrev ends_now : Endpoint → Party
@@ -103,26 +120,37 @@ module _ (w : WorldState) (ok : Refines true w) where
               answers_plainly two_hosts (m w ok) (holds w ok) x.address from own_x nobody here p
               (attests w ok from x.address bytes p own sent says) plain
 
-  came_plain : ArePlain w ok → (j : ℕ) (z : WorldEnd) → Came w j z → PlainEnd ends_now z
-  came_plain h j z (Was y i) = h j y i
-  came_plain h j z (Opened x n) = λ c t e. absurd (let f : None ≡ Some t = sym (n c) ∙ e in cc)
-  came_plain h j z (Armed y i) = armed_plain ends_now y (h j y i)
-  came_plain h j z (Timed x held i) =
-      stands_plain ends_now x (timeout_turn x.state) held
+  -- a turn of a client leaves it such a peer
+  turn_plain : ArePlain w ok → (j : ℕ) (x : OpenEnd) (turn : Turn) (held : Files (List ℕ) Holding) →
+      slice_get w.ends j ≡ Some (Open_end x) → IsTurn w x turn held →
+      PlainEnd ends_now (standing (end_after x turn held))
+  turn_plain h j x turn held i At_timeout =
+      stands_plain ends_now x (timeout_turn x.state) (files_of x)
       (λ c. timeout_are (HasPlainPeer ends_now) x.state (h j (Open_end x) i c))
-  came_plain h j z (Took x from bytes turn held i a d) =
-      stands_plain ends_now x turn held
-      (λ c. step_are (HasPlainPeer ends_now) memory_source
-      (world_sink
-      (may_refuse_commit (is_client x.state.role.side) (in_the_way w.overwrite (file_at w.files x.path)))) from bytes
-      x.state (files_of x) held turn (h j (Open_end x) i c)
-      (λ ks b. absurd (true≢false b)) (plain_answer j x i from bytes a) d)
+  turn_plain h j x turn held i (At_datagram from bytes t files a d) =
+      stands_plain ends_now x t files
+      (λ c. step_are (HasPlainPeer ends_now) memory_source _ from bytes x.state (files_of x) files t
+      (h j (Open_end x) i c) (λ ks b. absurd (true≢false b)) (plain_answer j x i from bytes a) d)
+
+  came_plain : ArePlain w ok → (j : ℕ) (z : WorldEnd) → Came (IsTurn w) w j z → PlainEnd ends_now z
+  came_plain h j z (Was y i) = h j y i
+  came_plain h j z (Began x none o) = λ c t e. absurd (let f : None ≡ Some t = sym (no_terms w x o c) ∙ e in cc)
+  came_plain h j z (Was_armed y i) = armed_has (PlainEnd ends_now) (λ x n. n) y (h j y i)
+  came_plain h j z (Moved x turn held i t) = turn_plain h j x turn held i t
 
 -- ---- a world with what is known of its clients
 -- a world whose ends were opened as their first datagrams say
 pub record Known_world (w : WorldState) : Type 0 where
   pub ok : Refines true w
   pub plain : ArePlain w ok
+
+-- so it is of a world in which nothing has happened
+pub known_new : (files : List StoredFile) (config : Config) → IsBlockSize config.limits.max_block →
+    Known_world (new_world files config)
+known_new files config max = record {
+  ok = new_ok true files config max;
+  plain = λ k z i. absurd (let f : None ≡ Some z = i in cc);
+}
 
 -- each event keeps it
 pub known_then : (w v : WorldState) (event : Event) (report : Report) → Known_world w → WorldStep w event report v →
@@ -133,5 +161,5 @@ known_then w v event report known s =
       ok = g.now;
       plain = λ k z i.
           plain_grows (Machine.party (m w known.ok)) (Machine.party (m v g.now)) g.grows z
-          (came_plain w known.ok known.plain k z (came w v event report s k z i));
+          (came_plain w known.ok known.plain k z (event_came w v event report s k z i));
     }

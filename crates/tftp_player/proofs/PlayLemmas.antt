@@ -1,23 +1,21 @@
 -- The effect of a timeout and of a refusing store on the world, and what a world returns of the end at a port. For six
 -- functions and ArrivalLemmas.
-use Rattle.tftp_player.proofs.Common.{◌≡◌, ℕ, ◌+◌, ◌<◌, ◌≤◌, Bool, true, false, List, ◌++◌, length, Option, Some, None}
-use Rattle.tftp_player.proofs.Common.{refl, sym, ap, ◌∙◌, subst, rules, ◌⊎◌, if◌then◌else◌, option_map, slice_get}
-use Rattle.tftp_player.proofs.Common.{slice_set, append-nil, Record, is_sender, record_of, Turn, Reply, reply_bytes}
-use Rattle.tftp_player.proofs.Common.{timeout_turn, Config, Endpoint, OpenEnd, files_of, said_by, report_by}
-use Rattle.tftp_player.proofs.Common.{records_from, PlayedServer, ArePartsConsistent, world_of, WorldState, WorldEnd}
-use Rattle.tftp_player.proofs.Common.{Open_end, Closed_end, end_address, end_record, replied, world_after, report_of}
-use Rattle.tftp_player.proofs.Common.{no_report, WorldStep, armed_end, Datagram, Effect, Timeout, RefuseStore, Report}
+use Rattle.tftp_player.proofs.Common.{◌≡◌, ℕ, ◌+◌, ◌<◌, ◌≤◌, false, List, ◌++◌, length, Option, Some, None, refl, sym}
+use Rattle.tftp_player.proofs.Common.{ap, ◌∙◌, subst, rules, ◌⊎◌, option_map, slice_get, slice_set, append-nil, Record}
+use Rattle.tftp_player.proofs.Common.{Turn, Reply, reply_bytes, timeout_turn, Config, Endpoint, OpenEnd, files_of}
+use Rattle.tftp_player.proofs.Common.{said_by, report_by, records_from, PlayedServer, ArePartsConsistent, world_of}
+use Rattle.tftp_player.proofs.Common.{WorldState, WorldEnd, Open_end, Closed_end, end_address, end_record, replied}
+use Rattle.tftp_player.proofs.Common.{world_after, report_of, no_report, WorldStep, armed_end, Datagram, Effect}
+use Rattle.tftp_player.proofs.Common.{Timeout, RefuseStore, Report, slice_get_past, EndTimesOut, end_committed}
+use Rattle.tftp_player.proofs.Common.{IsAtPort}
 use Rattle.std.proofs.Common.{option_and_then}
 use Rattle.std.proofs.lemmas.Bool.Decides.{nat_tests}
-use Rattle.std.proofs.lemmas.Option.{slice_get_past}
 use Rattle.tftp_player.specs.Effect.{effect_of}
-use Rattle.tftp_player.specs.EndSteps.{EndTimesOut}
 use Rattle.tftp_player.specs.Simulation.{EndsTimeOut, opened_at, stored_in, stored_at, committed_at}
-use Rattle.tftp_player.specs.World.{end_committed}
-use Rattle.tftp_player.specs.WorldSteps.{IsAtPort}
 use Rattle.tftp_player.proofs.HostEnds.{records_set, same_set}
-use Rattle.tftp_player.proofs.StepLemmas.{timeout_step, timeout_stays, refuse_step}
+use Rattle.tftp_player.proofs.StepLemmas.{timeout_step, timeout_stays}
 use Rattle.tftp_player.proofs.WorldTurns.{ports_set}
+use Rattle.tftp_player.proofs.Changes.{armed_has}
 
 -- the datagram to send is the world's, and so is the report
 pub said_is : (at : Endpoint) (reply : Option Reply) →
@@ -73,15 +71,9 @@ timeout_result config sent index before after ends ends' effect port old sent0 s
     effect port t.end t.next (record { is = is; there = t.found }) t.times_out t.is)))
 
 -- ---- a store that is to refuse: the record of the end and its address stay
-flag_only : (b : Bool) (x : OpenEnd) →
-    (end_record (Open_end (if b then x else record x { refuses = true })) ≡ record_of x.state)
-    × (end_address (Open_end (if b then x else record x { refuses = true })) ≡ x.address)
-flag_only true x = (refl, refl)
-flag_only false x = (refl, refl)
-
 same_armed : (x : WorldEnd) → (end_record (armed_end x) ≡ end_record x) × (end_address (armed_end x) ≡ end_address x)
-same_armed (Open_end x) = flag_only (is_sender x.state.role.side) x
-same_armed (Closed_end x) = (refl, refl)
+same_armed x =
+    armed_has (λ z. (end_record z ≡ end_record x) × (end_address z ≡ end_address x)) (λ z h. h) x (refl, refl)
 
 module _ (config : Config) (sent : List Datagram) (server : PlayedServer) (ends : List WorldEnd) (old : WorldState)
     (view : world_of config sent server ends ≡ old) (port index : ℕ) (x : WorldEnd)
@@ -102,7 +94,7 @@ module _ (config : Config) (sent : List Datagram) (server : PlayedServer) (ends 
   pub armed_step : port ≡ 1024 + index →
       WorldStep old (RefuseStore port) no_report (world_of config sent server (slice_set ends index (armed_end x)))
   armed_step is =
-      rw (← view) (refuse_step (world_of config sent server ends) port index x (record { is = is; there = there }))
+      rw (← view) (index, x, record { is = is; there = there }, refl, refl)
 
 -- ---- the end at a port
 pub there_is : (ends : List WorldEnd) (port index : ℕ) → port ≡ 1024 + index →

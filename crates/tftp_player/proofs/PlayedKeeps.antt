@@ -1,10 +1,9 @@
 -- What a world that is played keeps, by whether a stray has arrived. For four functions.
 use Rattle.tftp_player.proofs.Common.{◌≡◌, ℕ, ◌+◌, suc, arith, Bool, true, false, List, [], ◌∷◌, ◌++◌, length, ap}
-use Rattle.tftp_player.proofs.Common.{subst, ◌∙◌, rules, WorldState, Refines, WorldStep, Settles, Event, Get, Put}
-use Rattle.tftp_player.proofs.Common.{Deliver, Timeout, RefuseStore, Stray, Report}
+use Rattle.tftp_player.proofs.Common.{subst, ◌∙◌, rules, WorldState, Refines, WorldStep, Settles, Event, Deliver, Stray}
+use Rattle.tftp_player.proofs.Common.{Report, HasPeersAtHome}
 use Rattle.std.proofs.lemmas.List.{length-append}
 use Rattle.tftp_player.specs.PlayedWorld.{strayed_after}
-use Rattle.tftp_player.specs.WorldSafety.{HasPeersAtHome}
 use Rattle.tftp_player.proofs.WorldRuns.{ok_at_home, step_keeps}
 
 shifted : (from n : ℕ) → from + suc n ≡ (from + 1) + n
@@ -18,14 +17,9 @@ kept_anyway w ok = search rules
 pub played_keeps : (strayed : Bool) (w v : WorldState) (event : Event) (report : Report) → Refines strayed w →
     WorldStep w event report v → Refines (strayed_after strayed event) v
 played_keeps true w v event report ok s = step_keeps true w v event report tt ok s
-played_keeps false w v (Get name mode asked) report ok s = step_keeps false w v (Get name mode asked) report tt ok s
-played_keeps false w v (Put name mode asked bytes) report ok s =
-    step_keeps false w v (Put name mode asked bytes) report tt ok s
-played_keeps false w v (Deliver i) report ok s = step_keeps false w v (Deliver i) report tt ok s
-played_keeps false w v (Timeout port) report ok s = step_keeps false w v (Timeout port) report tt ok s
-played_keeps false w v (RefuseStore port) report ok s = step_keeps false w v (RefuseStore port) report tt ok s
 played_keeps false w v (Stray from to bytes) report ok s =
     step_keeps true w v (Stray from to bytes) report tt (kept_anyway w ok) s
+played_keeps false w v event report ok s = step_keeps false w v event report tt ok s
 
 -- without strays every peer is at home
 pub home_of : (strayed : Bool) (w : WorldState) → Refines strayed w → strayed ≡ false → HasPeersAtHome w

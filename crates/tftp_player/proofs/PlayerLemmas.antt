@@ -2,10 +2,10 @@
 use Rattle.tftp_player.proofs.Common.{◌≡◌, ℕ, Bool, true, false, List, [], Option, None, rules, is_some, Files, Holding}
 use Rattle.tftp_player.proofs.Common.{Record, is_client, outcome_of, record_of, AreFilesOf, AreSame, Turn, Endpoint}
 use Rattle.tftp_player.proofs.Common.{OpenEnd, files_of, EndTakes, client_end, StoredFile, WorldEnd, standing, file_at}
-use Rattle.tftp_player.proofs.Common.{in_the_way, EndStep, Effect}
+use Rattle.tftp_player.proofs.Common.{in_the_way, EndStep, Effect, EndHandles, stands}
 use Rattle.tftp_player.specs.Clients.{ClientTurns, ClientDatagramStep}
-use Rattle.tftp_player.specs.EndSteps.{EndTurns, EndHandles}
-use Rattle.tftp_player.specs.Played.{played_end, played_state, stands, IsPlayed}
+use Rattle.tftp_player.specs.EndSteps.{EndTurns}
+use Rattle.tftp_player.specs.Played.{played_end, played_state, IsPlayed}
 use Rattle.tftp_player.specs.PlayedClient.{PlayedClient}
 use Rattle.tftp_player.specs.declared.played_end.PlayedEnd.{PlayedEnd}
 use Rattle.tftp_player.specs.declared.played_end.PlayedEnd.TheVariants.{Client}

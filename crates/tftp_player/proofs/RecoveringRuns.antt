@@ -1,55 +1,57 @@
 -- An established transfer recovers: one timeout of its sender, and then no loss.
 -- For the law a_transfer_recovers.
-use Rattle.tftp_player.proofs.Common.{common_steps, ◌≡◌, ℕ, ◌+◌, ◌*◌, ◌-◌, ◌<◌, ◌≤◌, Bool, true, false, not, List, []}
-use Rattle.tftp_player.proofs.Common.{◌∷◌, ◌++◌, length, take, Option, Some, None, refl, sym, ap, ◌∙◌, subst, arith}
-use Rattle.tftp_player.proofs.Common.{inl, inr, rules, ◌≢◌, ◌⊎◌, slice_get, option_map, Contains}
-use Rattle.tftp_player.proofs.Common.{true≢false, cases_eq, same_Some, Mode, RawOption, Packet, Data, Oack, Spells}
-use Rattle.tftp_player.proofs.Common.{canonical, Asked, block, block_count, wire_text, Respond, ResendReply, Outcome}
-use Rattle.tftp_player.proofs.Common.{Phase, Waiting, Sending, Receiving, Dallying, Closed, Terms, is_sender, is_client}
-use Rattle.tftp_player.proofs.Common.{is_complete, outcome_of, terms_of, size_of, datagram_action, ack_bytes}
-use Rattle.tftp_player.proofs.Common.{data_bytes, HeldBackFits, Endpoint, Machine, OpenEnd, peer_of, goes_on, Behaves}
-use Rattle.tftp_player.proofs.Common.{left_to_add, AllTaken, WorldState, Open_end, datagram, new_world, Refines}
-use Rattle.tftp_player.proofs.Common.{Timeout}
+use Rattle.tftp_player.proofs.Common.{length, take, block, datagram, canonical, rules, ℕ, ◌≡◌, List, Some, ap, refl}
+use Rattle.tftp_player.proofs.Common.{◌∙◌, true, false, Bool, arith, slice_get, [], ◌∷◌, None, ◌+◌, ◌<◌, Option, inr}
+use Rattle.tftp_player.proofs.Common.{◌≤◌, inl, ◌++◌, ◌≢◌, not, ◌*◌, ◌⊎◌, option_map, ◌-◌, true≢false, cases_eq}
+use Rattle.tftp_player.proofs.Common.{common_steps, same_Some, Contains, Spells, Mode, RawOption, Packet, Oack, Data}
+use Rattle.tftp_player.proofs.Common.{Asked, block_count, wire_text, datagram_action, is_client, terms_of, outcome_of}
+use Rattle.tftp_player.proofs.Common.{is_complete, size_of, receiver_action, ack_bytes, data_bytes, Respond}
+use Rattle.tftp_player.proofs.Common.{ResendReply, Outcome, Phase, Receiving, Waiting, Sending, Dallying, Closed, Terms}
+use Rattle.tftp_player.proofs.Common.{Endpoint, OpenEnd, peer_of, goes_on, Behaves, left_to_add, AllTaken, WorldState}
+use Rattle.tftp_player.proofs.Common.{Open_end, new_world, Refines, Timeout, subst, sym}
 use Rattle.tftp_ends.specs.declared.phase.Dally.{Dally}
 use Rattle.tftp_ends.specs.End.{number_of}
-use Rattle.tftp_rules.specs.Rules.{run}
-use Rattle.tftp_player.specs.Recovering.{IsEstablished, TransfersRecover}
+use Rattle.tftp_player.specs.Recovering.{TransfersRecover}
 use Rattle.tftp_player.proofs.NewestKept.{IsNewest, EndNewest, AllNewest, run_newest, new_newest}
-use Rattle.tftp_player.proofs.RunsLeft.{UnlessReads, IsWilling, IsLeft, GoesOn, Reaches, walks, ends_here}
-use Rattle.tftp_player.proofs.OldDatagrams.{oack_again}
+use Rattle.tftp_player.proofs.RunsLeft.{UnlessReads, IsWilling, IsLeft, GoesOn, Reaches, walks}
 use Rattle.tftp_player.proofs.StraightActions.{from_peer}
-use Rattle.tftp_player.proofs.StraightRuns.{IsReady, ready_next, stays_at, set_at, SendsAt, AwaitsAt, fit_of}
-use Rattle.tftp_player.proofs.StraightRuns.{awaits_now, ack_ready, ack_sender, ack_receiver, ack_over, from_data}
-use Rattle.tftp_player.proofs.StraightSteps.{ports_of, delivered}
+use Rattle.tftp_player.proofs.StraightRuns.{IsReady, ready_next, stays_at, set_at, Transfer, SendsAt, AwaitsAt, AckDue}
+use Rattle.tftp_player.proofs.StraightRuns.{fit_of, awaits_now, ends_with, from_ack, from_data}
+use Rattle.tftp_player.proofs.StraightSteps.{delivered}
 use Rattle.tftp_player.proofs.WorldRuns.{run_keeps, new_ok, any_may}
-use Rattle.tftp_player.proofs.SentAgain.{MaySendAgain, ready_with, Again, Resent, data_short, handles_again, next_of}
-use Rattle.tftp_player.proofs.SentAgain.{oack_alone, resends, MaySendAgain, ready_with, retransmits, timed_out}
-use Rattle.tftp_player.proofs.WorldFacts.{all_blocks, apart, at_y, attests, has_more, has_text, high, low, m, mode_same}
-use Rattle.tftp_player.proofs.WorldFacts.{own_x, pair, receives, size_x, size_y, spoken, still_x, still_y, text_x, way}
+use Rattle.tftp_player.proofs.SentAgain.{MaySendAgain, ready_with, Again, Resent, retried, data_short, handles_again}
+use Rattle.tftp_player.proofs.SentAgain.{next_of, oack_alone, resends, retransmits, timed_out}
+use Rattle.tftp_player.proofs.WorldFacts.{Pair, peers, match_y, party, all_blocks, apart, attests, has_more, has_text}
+use Rattle.tftp_player.proofs.WorldFacts.{high, low, mode_same, own_x, pair, receives, size_x, size_y, spoken, still_x}
+use Rattle.tftp_player.proofs.WorldFacts.{still_y, text_x, way}
 
 -- an end that refuses no append stays so
 pub willing_still : (reads : Bool) (y z : OpenEnd) → IsWilling reads y → z.state.role.side ≡ y.state.role.side →
     z.refuses ≡ y.refuses → IsWilling reads z
 willing_still reads y z h side refuses = search rules
 
+-- an OACK again before the first block is answered again
+oack_again : (client : Bool) (mode : Mode) (held : List ℕ) (terms : Terms) (options : List RawOption) (n : ℕ) →
+    client ≡ true → terms.by_oack ≡ true → n ≡ 0 →
+    receiver_action client mode held terms n (Some (Oack options)) ≡ Respond ResendReply
+oack_again client mode held terms options n is_client by_oack none = search rules
+
 -- ---- the run
-module _ (w new : WorldState) (ok : Refines true w) (one other : ℕ) (x y : OpenEnd) (st : Terms) (n : ℕ)
-    (e : IsEstablished w one other x y st n) (run : Behaves w x y new)
-    (reads : Bool) (willing : IsWilling reads y) (taken : UnlessReads reads (AllTaken run.reports)) where
+module _ (p : Pair) (new : WorldState) (run : Behaves p.w p.x p.y new) (reads : Bool) (willing : IsWilling reads p.y)
+    (taken : UnlessReads reads (AllTaken run.reports)) where
+  open p use {w, ok, one, other, x, y, st, n, e}
+
   abbrev sa : Endpoint
   sa = x.address
 
   abbrev ra : Endpoint
   ra = y.address
 
-  abbrev file_mode : Mode
-  file_mode = x.state.role.mode
-
   abbrev bytes_now : List ℕ
   bytes_now = x.state.position.last_sent
 
   abbrev text_now : List ℕ
-  text_now = wire_text file_mode x.file
+  text_now = wire_text x.state.role.mode x.file
 
   abbrev i : ℕ
   i = length w.sent
@@ -63,135 +65,108 @@ module _ (w new : WorldState) (ok : Refines true w) (one other : ℕ) (x y : Ope
   count_is : block_count x.text st.size ≡ block_count text_now st.size
   count_is = ap (λ (t : List ℕ). block_count t st.size) text_is
 
-  away : other ≢ one
-  away = apart w ok one other x y st n e
-
   resent : Resent w run.mid one x
-  resent = resends w _ _ x _ (retransmits _ _ (subst MaySendAgain (sym e.sends) tt) run.retries) (still_x w ok _ _ x y _
-      n e) (timed_out w _ _ x _ ok e.sender_at run.times_out)
+  resent = resends w run.mid one x run.report (retransmits _ _ (subst MaySendAgain (sym e.sends) tt) run.retries)
+      (still_x p) (timed_out w run.mid one x run.report ok e.sender_at run.times_out)
 
   to_is : x.state.position.last_sent_to ≡ ra
-  to_is = (way w ok one other x y st n e).last_sent_to ∙ e.to_receiver
-
-  sent_is : run.mid.sent ≡ w.sent ++ datagram sa ra bytes_now ∷ []
-  sent_is = resent.sent ∙ ap (λ (a : Endpoint). w.sent ++ datagram sa a bytes_now ∷ []) to_is
+  to_is = (way p).last_sent_to ∙ e.to_receiver
 
   -- what it sent again is to be delivered
-  ready : IsReady true run.mid i (datagram sa ra bytes_now)
-  ready = ready_with w run.mid (Timeout x.address.port) run.report (datagram sa ra bytes_now) ok run.times_out sent_is
+  ready : IsReady run.mid i (datagram sa ra bytes_now)
+  ready = ready_with w run.mid (Timeout x.address.port) run.report (datagram sa ra bytes_now) ok run.times_out
+      (resent.sent ∙ ap (λ (a : Endpoint). w.sent ++ datagram sa a bytes_now ∷ []) to_is)
 
   abbrev left : IsLeft reads run.mid i new
   left = record { reports = run.reports; settles = run.settles; taken = taken }
 
-  sender_there : slice_get run.mid.ends one ≡ Some (Open_end resent.y)
-  sender_there = set_at w run.mid one (Open_end x) (Open_end resent.y) resent.ends e.sender_at
+  sender_there : slice_get run.mid.ends one ≡ Some (Open_end (retried x))
+  sender_there = set_at w run.mid one (Open_end x) (Open_end (retried x)) resent.ends e.sender_at
 
   receiver_there : slice_get run.mid.ends other ≡ Some (Open_end y)
-  receiver_there = stays_at w run.mid one other (Open_end y) (Open_end resent.y) resent.ends away e.receiver_at
+  receiver_there = stays_at w run.mid one other (Open_end y) (Open_end (retried x)) resent.ends (apart p) e.receiver_at
 
   -- it was sent before
   was_sent : Contains w.sent (datagram sa ra bytes_now)
-  was_sent = rw (← to_is) (ok.ends one (Open_end x) e.sender_at).stands.last_sent
+  was_sent =
+      subst (λ (a : Endpoint). Contains w.sent (datagram sa a bytes_now)) to_is
+      (ok.ends one (Open_end x) e.sender_at).stands.last_sent
 
   -- ---- the receiver has these terms
   module _ (rt : Terms) (known : terms_of phase_y ≡ Some rt) where
-    rp : rt.peer ≡ sa
-    rp = same_Some rt.peer sa (sym (ap (option_map (λ (t : Terms). t.peer)) known) ∙ e.to_sender)
+    abbrev t : Transfer
+    t = record {
+      ks = one;
+      kr = other;
+      apart = apart p;
+      sa = sa;
+      ra = ra;
+      st = st;
+      rt = rt;
+      mode = x.state.role.mode;
+      file = x.file;
+      sender_peer = e.to_receiver;
+      receiver_peer = same_Some rt.peer sa (sym (ap (option_map (λ (t : Terms). t.peer)) known) ∙ e.to_sender);
+      same_size = sym ((match_y (peers p)).size ∙ ap size_of known) ∙ size_y p;
+    }
 
-    ss : rt.size ≡ st.size
-    ss =
-        sym ((at_y w ok one other x y st n e).size ∙ ap size_of known) ∙ size_y w ok one other x y st n e
+    sends_at : (v : WorldState) (k : ℕ) → n ≡ k → slice_get v.ends one ≡ Some (Open_end (retried x)) → SendsAt t v k
+    sends_at v k number there = record {
+      x = retried x;
+      there = there;
+      address = refl;
+      phase = e.sends ∙ ap (Sending st) number;
+      file_is = refl;
+      mode_is = refl;
+    }
 
-    sender_at_mid : SendsAt true one other away sa ra st rt file_mode x.file e.to_receiver rp ss run.mid n
-    sender_at_mid = search (rules, sender_there)
-
-    -- an end of the same fields that has `k` blocks, and is to have more
-    waits : (v : WorldState) (z : OpenEnd) (k : ℕ) → phase_y ≡ Receiving rt k → k ≤ n → Refines true v →
-        SendsAt true one other away sa ra st rt file_mode x.file e.to_receiver rp ss v n →
-        slice_get v.ends other ≡ Some (Open_end z) →
-        z.address ≡ y.address → z.state.role.mode ≡ y.state.role.mode → z.state.role.side ≡ y.state.role.side →
-        z.state.position.phase ≡ phase_y → z.stored ≡ y.stored →
-        z.state.position.held_back ≡ y.state.position.held_back → z.refuses ≡ y.refuses →
-        AwaitsAt true one other away sa ra st rt file_mode x.file e.to_receiver rp ss reads v k
-    waits v z k is few v_ok s there address mode side phase stored held refuses =
+    -- the receiver has `k` blocks, and is to have more
+    waits : (v : WorldState) (k j : ℕ) → phase_y ≡ Receiving rt k → Refines true v → SendsAt t v j →
+        slice_get v.ends other ≡ Some (Open_end y) → AwaitsAt t reads v k
+    waits v k j is v_ok s there =
         let open_now : is_complete phase_y ≡ false = ap is_complete is in
-        let more : k < block_count x.text st.size = rw (← ap number_of is) (has_more w ok one other x y st n e open_now)
-        in
+        let more : k < block_count x.text st.size = rw (← ap number_of is) (has_more p open_now) in
         let within : k + 1 ≤ block_count text_now st.size = let c = count_is in omega (arith, more, c) in
-        let fit = fit_of true one other away sa ra st rt file_mode x.file e.to_receiver rp ss v n v_ok s in
-        let mode_now : z.state.role.mode ≡ file_mode = mode ∙ mode_same w ok one other x y st n e in
-        let has = has_text w ok one other x y st n e open_now (ap goes_on is) in
-        awaits_now true one other away sa ra st rt file_mode x.file e.to_receiver rp ss reads v z k fit within there
-        address (phase ∙ is) (ap is_sender side ∙ receives w ok one other x y st n e) (willing_still reads y z willing
-        side refuses) mode_now (ap (λ (q : Mode). wire_text q z.stored ++ z.state.position.held_back) mode ∙ (ap (λ (bs
-        : List ℕ). wire_text y.state.role.mode bs ++ z.state.position.held_back) stored ∙ (ap (λ (bs : List ℕ).
-        wire_text y.state.role.mode y.stored ++ bs) held ∙ (has ∙ (ap (λ (c : ℕ). take (c * st.size) x.text)
-        (ap number_of is) ∙ ap (take (k * st.size)) text_is))))) (rw (mode) (subst (λ (bs : List ℕ). HeldBackFits
-        y.state.role.mode bs) (sym held) (ok.ends other (Open_end y) e.receiver_at).stands.kept.held_back))
+        awaits_now t reads v y k (fit_of t v j v_ok s) within there refl is (receives p) willing (mode_same (peers p))
+        (has_text p open_now (ap goes_on is)
+        ∙ (ap (λ (c : ℕ). take (c * st.size) x.text) (ap number_of is) ∙ ap (take (k * st.size)) text_is))
+        (ok.ends other (Open_end y) e.receiver_at).stands.kept.held_back
 
     -- ---- the receiver acknowledges once more what it has
-    module _ (p : Packet) (spelled : Spells p bytes_now)
-        (resends_it : datagram_action y.state sa bytes_now (Some p) ≡ Respond ResendReply)
+    module _ (q : Packet) (spelled : Spells q bytes_now)
+        (resends_it : datagram_action y.state sa bytes_now (Some q) ≡ Respond ResendReply)
         (same : number_of phase_y ≡ n) where
-      acks : (g : GoesOn reads run.mid i new) → Again run.mid g.mid other y sa n
-      acks g =
-          handles_again _ _ _ y _ _ _ n p (delivered _ _ i _ y _ _ _ (ports_of _ _ ready.ok) ready.newest receiver_there
-          g.step) spelled resends_it (still_y w ok _ _ x y _ n e) same
+      again : (g : GoesOn reads run.mid i new) → Again run.mid g.mid other y sa n
+      again g =
+          handles_again run.mid g.mid other y sa bytes_now g.report n q
+          (delivered run.mid g.mid i other y sa bytes_now g.report ready.ok.ports ready.newest receiver_there g.step)
+          spelled resends_it (still_y p) same
 
-      acked_ready : (g : GoesOn reads run.mid i new) → IsReady true g.mid (i + 1) (datagram ra sa (ack_bytes n))
-      acked_ready g = ready_next _ _ _ i _ _ _ ready g.step (acks g).sent
-
-      acked_sender : (g : GoesOn reads run.mid i new) →
-          SendsAt true one other away sa ra st rt file_mode x.file e.to_receiver rp ss g.mid n
-      acked_sender g = record {
-        x = resent.y;
-        there = stays_at run.mid g.mid other one (Open_end resent.y) (Open_end (acks g).y) (acks g).ends
-            (λ z. away (sym z)) sender_there;
-        address = resent.address;
-        phase = resent.phase ∙ e.sends;
-        file_is = resent.file;
-        mode_is = resent.mode;
+      due : (g : GoesOn reads run.mid i new) → AckDue t g.mid (i + 1) n
+      due g = record {
+        ready = ready_next run.mid g.mid i (datagram sa ra bytes_now) (datagram ra sa (ack_bytes n)) g.report ready
+            g.step (again g).sent;
+        sender = sends_at g.mid n refl
+            (stays_at run.mid g.mid other one (Open_end (retried x)) (Open_end y) (again g).ends
+            (λ z. apart p (sym z)) sender_there);
       }
 
-      receiver_now : (g : GoesOn reads run.mid i new) → slice_get g.mid.ends other ≡ Some (Open_end (acks g).y)
-      receiver_now g = set_at run.mid g.mid other (Open_end y) (Open_end (acks g).y) (acks g).ends receiver_there
+      receiver_now : (g : GoesOn reads run.mid i new) → slice_get g.mid.ends other ≡ Some (Open_end y)
+      receiver_now g = set_at run.mid g.mid other (Open_end y) (Open_end y) (again g).ends receiver_there
 
       -- it is to have more
       goes_on_from : (rest : ℕ) → phase_y ≡ Receiving rt n → n + 1 + rest ≡ block_count text_now st.size →
           Reaches new one other i (length run.reports) (2 + 2 * rest + 1 + 1)
-      goes_on_from rest is counted =
-          let more : n < block_count text_now st.size = omega (arith, counted) in
-          let few : n ≤ block_count text_now st.size = omega (arith, counted) in
-          walks _ _ _ _ _ i _ ready.count left (λ g.
-          let a = acks g in
-          let sender = acked_sender g in
-          let next = acked_ready g in
-          let receiver = waits _ _ n is (omega arith) next.ok sender (receiver_now g) a.address a.mode a.side a.phase
-          a.stored a.held_back a.refuses in
-          walks _ _ _ _ _ _ _ next.count g.left (λ h.
-          let again =
-          ack_ready _ _ _ away _ _ _ _ file_mode x.file e.to_receiver rp ss _ _ _ n _ next sender few h.step more in
-          let sender_then =
-          ack_sender _ _ _ away _ _ _ _ file_mode x.file e.to_receiver rp ss _ _ _ n _ next sender few h.step more in
-          let receiver_then =
-          ack_receiver _ _ _ away _ _ _ _ file_mode x.file e.to_receiver rp ss _ _ _ n _ next sender few h.step more _
-          receiver in
-          from_data _ _ _ away _ _ _ _ file_mode x.file e.to_receiver rp ss _ _ _ n _ _ counted again sender_then
-          receiver_then h.left))
+      goes_on_from rest is counted = walks reads run.mid new one other i (2 + 2 * rest + 1) ready.count left (λ g.
+          from_ack t reads rest (i + 1) n g.mid new counted (due g)
+          (waits g.mid n n is (due g).ready.ok (due g).sender (receiver_now g)) g.left)
 
       -- it has all
       ends_from : is_complete phase_y ≡ true → n ≡ block_count text_now st.size →
           Reaches new one other i (length run.reports) (0 + 1 + 1)
-      ends_from done last =
-          walks reads run.mid new one other i (0 + 1) ready.count left (λ g.
-          let a = acks g in
-          let sender = acked_sender g in
-          let next = acked_ready g in
-          walks reads g.mid new one other (i + 1) 0 next.count g.left (λ h.
-          ends_here reads h.mid new one other (i + 1 + 1)
-          (ack_over true one other away sa ra st rt file_mode x.file e.to_receiver rp ss g.mid h.mid (i + 1) n h.report
-          next sender (omega (arith, last)) h.step last
-          (record { x = Open_end a.y; there = receiver_now g; complete = ap is_complete a.phase ∙ done })) h.left))
+      ends_from done last = walks reads run.mid new one other i (0 + 1) ready.count left (λ g.
+          ends_with t reads (i + 1) n g.mid new last (due g)
+          (record { x = Open_end y; there = receiver_now g; complete = done }) g.left)
 
     -- ---- the receiver has all blocks before the sender's newest one
     stores_from : (k rest : ℕ) → n ≡ k + 1 → phase_y ≡ Receiving rt k →
@@ -199,24 +174,16 @@ module _ (w new : WorldState) (ok : Refines true w) (one other : ℕ) (x y : Ope
         k + 1 + rest ≡ block_count text_now st.size →
         Reaches new one other i (length run.reports) (2 + 2 * rest)
     stores_from k rest number is bytes_are counted =
-        let sender : SendsAt true one other away sa ra st rt file_mode x.file e.to_receiver rp ss run.mid (k + 1) =
-        subst (λ (c : ℕ). SendsAt true one other away sa ra st rt file_mode x.file e.to_receiver rp ss run.mid c) number
-        sender_at_mid in
-        let receiver =
-        waits run.mid y k is (let f : k ≤ n = omega (arith, number) in f) ready.ok sender_at_mid receiver_there refl refl
-        refl refl refl refl refl in
-        from_data true one other away sa ra st rt file_mode x.file e.to_receiver rp ss reads rest i k run.mid new counted
-        (subst (λ (bs : List ℕ). IsReady true run.mid i (datagram sa ra bs)) bytes_are ready) sender receiver left
+        let sender = sends_at run.mid (k + 1) number sender_there in
+        from_data t reads rest i k run.mid new counted (record {
+          ready = subst (λ (bs : List ℕ). IsReady run.mid i (datagram sa ra bs)) bytes_are ready;
+          sender = sender;
+          receiver = waits run.mid k (k + 1) is ready.ok sender receiver_there;
+        }) left
 
   -- ---- by what the sender sent last, and by the receiver's phase
-  abbrev total : ℕ
-  total = left_to_add x st n
-
-  so_far : n ≤ block_count x.text st.size
-  so_far = (way w ok one other x y st n e).so_far
-
   abbrev Recovers : Type 0
-  Recovers = Reaches new one other i (length run.reports) total
+  Recovers = Reaches new one other i (length run.reports) (left_to_add x st n)
 
   -- with one more block, or with none
   in_all : (rest : ℕ) → n + 1 + rest ≡ block_count text_now st.size →
@@ -240,28 +207,28 @@ module _ (w new : WorldState) (ok : Refines true w) (one other : ℕ) (x y : Ope
   none_sends : (terms : Terms) (k : ℕ) → phase_y ≡ Sending terms k → Recovers
   none_sends terms k is =
       let kept = rw (is) at (ok.ends other (Open_end y) e.receiver_at).stands.kept.phase in
-      absurd (true≢false (sym kept.sender ∙ receives w ok one other x y st n e))
+      absurd (true≢false (sym kept.sender ∙ receives p))
 
   none_closed : (terms : Option Terms) (k : ℕ) (complete : Bool) (outcome : Outcome) →
       phase_y ≡ Closed terms k complete outcome → Recovers
   none_closed terms k complete outcome is =
-      absurd (let f : Some outcome ≡ None = sym (ap outcome_of is) ∙ still_y w ok one other x y st n e in cc)
+      absurd (let f : Some outcome ≡ None = sym (ap outcome_of is) ∙ still_y p in cc)
 
   -- ---- the sender sends its newest block again
   module _ (piece : List ℕ) (positive : n ≢ 0) (data_is : bytes_now ≡ data_bytes n piece) where
     spelled_data : Spells (Data n piece) bytes_now
     spelled_data =
-        let u = way w ok one other x y st n e in
-        let p = spoken w ok sa ra bytes_now was_sent in
-        let short = data_short n piece p.0 (subst (λ (bs : List ℕ). Spells p.0 bs) data_is p.1) in
+        let u = way p in
+        let q = spoken w ok sa ra bytes_now was_sent in
+        let short = data_short n piece q.0 (subst (λ (bs : List ℕ). Spells q.0 bs) data_is q.1) in
         grind (arith, common_steps)
 
     piece_is : piece ≡ block text_now st.size n
     piece_is =
-        let t = attests w ok sa ra bytes_now (Data n piece) (own_x w ok one other x y st n e) was_sent spelled_data in
+        let t = attests w ok sa ra bytes_now (Data n piece) (own_x (peers p)) was_sent spelled_data in
         t.bytes
-        ∙ (ap (λ (k : ℕ). block (Machine.party (m w ok) sa).text k n) (size_x w ok one other x y st n e)
-        ∙ ap (λ (t : List ℕ). block t st.size n) (text_x w ok one other x y st n e ∙ text_is))
+        ∙ (ap (λ (k : ℕ). block (party w ok sa).text k n) (size_x p)
+        ∙ ap (λ (t : List ℕ). block t st.size n) (text_x p ∙ text_is))
 
     again_receiving : (rt : Terms) (k : ℕ) → phase_y ≡ Receiving rt k → n ≡ k →
         datagram_action y.state sa bytes_now (Some (Data n piece)) ≡ Respond ResendReply
@@ -274,17 +241,17 @@ module _ (w new : WorldState) (ok : Refines true w) (one other : ℕ) (x y : Ope
     receiving_recovers : (rt : Terms) (k : ℕ) → phase_y ≡ Receiving rt k → (n ≡ k) ⊎ (n ≢ k) → Recovers
     receiving_recovers rt k is (inl same) =
         let stored : number_of phase_y ≡ k = ap number_of is in
-        let more = has_more w ok one other x y st n e (ap is_complete is) in
+        let more = has_more p (ap is_complete is) in
         let r = left_after n (let z : n < block_count x.text st.size = omega (arith, more, stored, same) in z) in
         in_all r.0 r.1
         (goes_on_from rt (ap terms_of is) (Data n piece) spelled_data (again_receiving rt k is same)
         (stored ∙ sym same) r.0 (is ∙ ap (Receiving rt) (sym same)) r.1)
     receiving_recovers rt k is (inr other_number) =
         let stored : number_of phase_y ≡ k = ap number_of is in
-        let a = low w ok one other x y st n e in
-        let b = high w ok one other x y st n e in
+        let a = low p in
+        let b = high p in
         let number : n ≡ k + 1 = next_of n k (omega (arith, a, stored)) (omega (arith, b, stored)) other_number in
-        let more = has_more w ok one other x y st n e (ap is_complete is) in
+        let more = has_more p (ap is_complete is) in
         let r = left_after k (let z : k < block_count x.text st.size = omega (arith, more, stored) in z) in
         let c = count_is in
         let all = r.1 in
@@ -297,16 +264,16 @@ module _ (w new : WorldState) (ok : Refines true w) (one other : ℕ) (x y : Ope
     dallying_recovers : (rt : Terms) (k : ℕ) (dally : Dally) → phase_y ≡ Dallying rt k dally → Recovers
     dallying_recovers rt k dally is =
         let stored : number_of phase_y ≡ k = ap number_of is in
-        let all = all_blocks w ok one other x y st n e (ap is_complete is) in
-        let b = high w ok one other x y st n e in
-        let few = so_far in
+        let all = all_blocks p (ap is_complete is) in
+        let b = high p in
+        let few = (way p).so_far in
         let last : n ≡ block_count x.text st.size = omega (arith, all, b, few) in
         let same : n ≡ k = omega (arith, all, stored, last) in
         let count : 0 + 1 + 1 ≡ 2 + 2 * (block_count x.text st.size - n) = omega (arith, last) in
         rw (← count) (ends_from rt (ap terms_of is) (Data n piece) spelled_data (again_dallying rt k dally is same)
         (stored ∙ sym same) (ap is_complete is) (last ∙ count_is))
 
-    data_recovers : (p : Phase) → phase_y ≡ p → Recovers
+    data_recovers : (q : Phase) → phase_y ≡ q → Recovers
     data_recovers (Waiting asked limit) is = none_waits asked limit is
     data_recovers (Sending terms k) is = none_sends terms k is
     data_recovers (Receiving rt k) is = receiving_recovers rt k is (cases_eq n k)
@@ -318,38 +285,38 @@ module _ (w new : WorldState) (ok : Refines true w) (one other : ℕ) (x y : Ope
       (fresh : EndNewest (Open_end y)) where
     others : (more : List RawOption) × Spells (Oack more) bytes_now
     others =
-        let p = spoken w ok sa ra bytes_now was_sent in
-        let alone = oack_alone options p.0 (subst (λ (bs : List ℕ). Spells p.0 bs) oack_is p.1) in
-        (alone.0, subst (λ (q : Packet). Spells q bytes_now) alone.1 p.1)
+        let q = spoken w ok sa ra bytes_now was_sent in
+        let alone = oack_alone options q.0 (subst (λ (bs : List ℕ). Spells q.0 bs) oack_is q.1) in
+        (alone.0, subst (λ (r : Packet). Spells r bytes_now) alone.1 q.1)
 
     client_y : is_client y.state.role.side ≡ true
     client_y =
-        let t = attests w ok sa ra bytes_now (Oack others.0) (own_x w ok one other x y st n e) was_sent others.1 in
-        sym (at_y w ok one other x y st n e).client
-        ∙ ((pair w ok one other x y st n e).client ∙ ap not t.client)
+        let t = attests w ok sa ra bytes_now (Oack others.0) (own_x (peers p)) was_sent others.1 in
+        sym (match_y (peers p)).client ∙ ((pair (peers p)).client ∙ ap not t.client)
 
     again_oack : (rt : Terms) → phase_y ≡ Receiving rt 0 → rt.by_oack ≡ true →
         datagram_action y.state sa bytes_now (Some (Oack others.0)) ≡ Respond ResendReply
-    again_oack rt is took = search (rules, from_peer, rp, oack_again, client_y)
+    again_oack rt is took =
+        let rp = same_Some rt.peer sa (sym (ap peer_of is) ∙ e.to_sender) in
+        search (rules, from_peer, oack_again, client_y)
 
-    oack_recovers : (p : Phase) → phase_y ≡ p → Recovers
+    oack_recovers : (q : Phase) → phase_y ≡ q → Recovers
     oack_recovers (Waiting asked limit) is = none_waits asked limit is
     oack_recovers (Sending terms k) is = none_sends terms k is
     oack_recovers (Receiving rt k) is =
         let stored : number_of phase_y ≡ k = ap number_of is in
-        let b = high w ok one other x y st n e in
+        let b = high p in
         let nothing : k ≡ 0 = omega (arith, b, stored, zero_now) in
         let is_now : phase_y ≡ Receiving rt 0 = is ∙ ap (Receiving rt) nothing in
         let took : rt.by_oack ≡ true = (rw (is_now) at fresh) refl client_y in
-        let more = has_more w ok one other x y st n e (ap is_complete is) in
+        let more = has_more p (ap is_complete is) in
         let r = left_after n (let z : n < block_count x.text st.size = omega (arith, more, stored, nothing, zero_now)
         in z) in
         in_all r.0 r.1 (goes_on_from rt (ap terms_of is) (Oack others.0) others.1 (again_oack rt is_now took) (stored ∙
         (nothing ∙ sym zero_now)) r.0 (is_now ∙ ap (Receiving rt) (sym zero_now)) r.1)
     oack_recovers (Dallying rt k dally) is =
-        let stored : number_of phase_y ≡ k = ap number_of is in
-        let all = all_blocks w ok one other x y st n e (ap is_complete is) in
-        let b = high w ok one other x y st n e in
+        let all = all_blocks p (ap is_complete is) in
+        let b = high p in
         absurd (omega (arith, all, b, zero_now))
     oack_recovers (Closed terms k complete outcome) is = none_closed terms k complete outcome is
 
@@ -370,9 +337,11 @@ transfers_recover w new one other x y terms number reached e run =
     run_keeps true reached.events first w (any_may reached.events) (new_ok true reached.files reached.config
     reached.max_block) reached.plays in
     let fresh = run_newest reached.events first w (new_newest reached.files reached.config) reached.plays in
+    let p : Pair =
+    record { w = w; ok = ok; one = one; other = other; x = x; y = y; st = terms; n = number; e = e } in
     let r : Reaches new one other (length w.sent) (length run.reports) (left_to_add x terms number) =
     elim run.taken [
-      | inl t ↦ recovers w new ok one other x y terms number e run false tt t fresh
-      | inr h ↦ recovers w new ok one other x y terms number e run true h tt fresh
+      | inl t ↦ recovers p new run false tt t fresh
+      | inr h ↦ recovers p new run true h tt fresh
     ] in
     search rules

@@ -1,19 +1,19 @@
 -- A transfer that recovers: a read of three blocks of which a datagram was lost.
 -- For the law a_transfer_recovers, which is then of some runs.
 use Rattle.tftp_player.proofs.Common.{ℕ, ◌∷◌, Option, Some, refl, arith, rules, inr, slice_get, OpenEnd, IsReached}
-use Rattle.tftp_player.proofs.Common.{WorldState, WorldEnd, Open_end, sent_report}
-use Rattle.std.specs.Fmt.{digits}
-use Rattle.tftp_negotiate.specs.Agreement.{taken_option}
-use Rattle.tftp_negotiate.specs.Answer.{answered_option}
-use Rattle.tftp_negotiate.specs.Negotiation.{occurrences_of}
-use Rattle.tftp_negotiate.specs.Options.{name_of, number_of}
+use Rattle.tftp_player.proofs.Common.{WorldState, WorldEnd, Open_end, sent_report, Terms, left_to_add, is_client, ◌≡◌}
+use Rattle.tftp_player.proofs.Common.{length, subst, sym, ◌∙◌, true, false, ◌<◌, Settles}
+use Rattle.tftp_negotiate.specs.Options.{number_of, name_of}
 use Rattle.tftp_negotiate.specs.declared.known.Kind.TheVariants.{Read}
-use Rattle.tftp_player.specs.Recovering.{SomeTransferRecovers}
+use Rattle.tftp_player.specs.Recovering.{SomeTransferRecovers, IsEstablished}
 use Rattle.tftp_player.proofs.SampleDeliveries.{AllDelivered, world_at, reports, settles, deliveries, plays, behaves}
-use Rattle.tftp_player.proofs.SampleDeliveries.{timed_by}
-use Rattle.tftp_player.proofs.Witness.{config, files_for, new_world_for, asked_world, begun_world, event_for}
-use Rattle.tftp_player.proofs.Witness.{client_for, Sample, Runs, asks, opens}
+use Rattle.tftp_player.proofs.SampleDeliveries.{timed_by, StoresNone, count_reports}
+use Rattle.tftp_player.proofs.Witness.{asked_world, begun_world, client_for, Sample, Runs, opens, reached_by}
 use Rattle.tftp_player.proofs.Witnesses.{blocks, blocks_run, read, read_runs}
+use Rattle.tftp_negotiate.specs.Answer.{answered_option}
+use Rattle.std.specs.Fmt.{digits}
+use Rattle.tftp_negotiate.specs.Negotiation.{occurrences_of}
+use Rattle.tftp_negotiate.specs.Agreement.{taken_option}
 
 -- an end that is open
 abbrev open_at : Sample → Option WorldEnd → OpenEnd
@@ -34,69 +34,61 @@ receiver_in s heard = open_at s (slice_get (heard_world s heard).ends 0)
 abbrev timed_world : Sample → ℕ → WorldState
 timed_world s heard = timed_by (heard_world s heard) 1 (sender_in s heard)
 
-reached : (s : Sample) → Runs Read s → (heard : ℕ) → AllDelivered s.host heard (begun_world Read s) 1 → IsReached (heard_world s heard)
-reached s runs heard all = record {
-  files = files_for Read s;
-  config = config;
-  events = event_for Read s ∷ deliveries 0 (sent_report (asked_world Read s) ∷ reports s.host heard (begun_world Read s)
-      1);
-  max_block = (omega arith, omega arith);
-  plays = search (rules, asked_world, new_world_for, asks, plays, reports, begun_world, opens, settles);
-}
+reached : (s : Sample) → Runs Read s → (heard : ℕ) → AllDelivered s.host heard (begun_world Read s) 1 →
+    IsReached (heard_world s heard)
+reached s runs heard all =
+    let rs = sent_report (asked_world Read s) ∷ reports s.host heard (begun_world Read s) 1 in
+    reached_by Read s runs.may (deliveries 0 rs) _
+    (plays (asked_world Read s) 0 rs (heard_world s heard)
+    (begun_world Read s, opens Read s runs, settles s.host heard (begun_world Read s) 1 all))
+
+-- it recovers by so many deliveries, from the datagram at this index on, if that is their number
+recovers_by : (s : Sample) → Runs Read s → (heard more next number : ℕ) (terms : Terms) →
+    AllDelivered s.host heard (begun_world Read s) 1 →
+    IsEstablished (heard_world s heard) 1 0 (sender_in s heard) (receiver_in s heard) terms number →
+    (sender_in s heard).address.port ≡ 1025 → StoresNone (sender_in s heard) →
+    0 < (sender_in s heard).state.position.retries_left → length (heard_world s heard).sent ≡ next →
+    AllDelivered s.host more (timed_world s heard) next →
+    (is_client (receiver_in s heard).state.role.side ≡ true) × ((receiver_in s heard).refuses ≡ false) →
+    more ≡ left_to_add (sender_in s heard) terms number → SomeTransferRecovers number
+recovers_by s runs heard more next number terms all is port none some from then_all willing counted = (
+  heard_world s heard,
+  world_at s.host more (timed_world s heard) next,
+  1,
+  0,
+  sender_in s heard,
+  receiver_in s heard,
+  terms,
+  reached s runs heard all,
+  is,
+  behaves (heard_world s heard) _ 1 (sender_in s heard) (receiver_in s heard) is.sender_at port none some
+      (reports s.host more (timed_world s heard) next)
+      (subst (λ (i : ℕ). Settles (timed_world s heard) i (reports s.host more (timed_world s heard) next)
+      (world_at s.host more (timed_world s heard) next)) (sym from)
+      (settles s.host more (timed_world s heard) next then_all)) (inr willing),
+  count_reports s.host more (timed_world s heard) next ∙ counted,
+)
 
 -- the OACK is acknowledged, and the ACK is lost
 pub oack_recovers : SomeTransferRecovers 0
 unfolding occurrences_of name_of number_of digits answered_option taken_option
-oack_recovers = (
-  heard_world blocks 1,
-  world_at blocks.host 8 (timed_world blocks 1) 3,
-  1,
-  0,
-  sender_in blocks 1,
-  receiver_in blocks 1,
-  _,
-  reached blocks blocks_run 1 (search rules),
-  record { sender_at = refl; receiver_at = refl; sends = refl; to_receiver = refl; to_sender = refl },
-  behaves (heard_world blocks 1) _ 1 (sender_in blocks 1) (receiver_in blocks 1) refl refl refl (omega arith)
-      (reports blocks.host 8 (timed_world blocks 1) 3)
-      (settles blocks.host 8 (timed_world blocks 1) 3 (search rules)) (inr (refl, refl)),
-  refl,
-)
+oack_recovers =
+    recovers_by blocks blocks_run 1 8 3 0 _ (search rules)
+    (record { sender_at = refl; receiver_at = refl; sends = refl; to_receiver = refl; to_sender = refl })
+    refl refl (omega arith) refl (search rules) (refl, refl) refl
 
 -- DATA 2 is lost
 pub data_recovers : SomeTransferRecovers 2
 unfolding occurrences_of name_of number_of digits answered_option taken_option
-data_recovers = (
-  heard_world blocks 4,
-  world_at blocks.host 4 (timed_world blocks 4) 6,
-  1,
-  0,
-  sender_in blocks 4,
-  receiver_in blocks 4,
-  _,
-  reached blocks blocks_run 4 (search rules),
-  record { sender_at = refl; receiver_at = refl; sends = refl; to_receiver = refl; to_sender = refl },
-  behaves (heard_world blocks 4) _ 1 (sender_in blocks 4) (receiver_in blocks 4) refl refl refl (omega arith)
-      (reports blocks.host 4 (timed_world blocks 4) 6)
-      (settles blocks.host 4 (timed_world blocks 4) 6 (search rules)) (inr (refl, refl)),
-  refl,
-)
+data_recovers =
+    recovers_by blocks blocks_run 4 4 6 2 _ (search rules)
+    (record { sender_at = refl; receiver_at = refl; sends = refl; to_receiver = refl; to_sender = refl })
+    refl refl (omega arith) refl (search rules) (refl, refl) refl
 
 -- the only block is stored, and its ACK is lost
 pub ack_recovers : SomeTransferRecovers 1
 unfolding occurrences_of
-ack_recovers = (
-  heard_world read 1,
-  world_at read.host 2 (timed_world read 1) 3,
-  1,
-  0,
-  sender_in read 1,
-  receiver_in read 1,
-  _,
-  reached read read_runs 1 (search rules),
-  record { sender_at = refl; receiver_at = refl; sends = refl; to_receiver = refl; to_sender = refl },
-  behaves (heard_world read 1) _ 1 (sender_in read 1) (receiver_in read 1) refl refl refl (omega arith)
-      (reports read.host 2 (timed_world read 1) 3)
-      (settles read.host 2 (timed_world read 1) 3 (search rules)) (inr (refl, refl)),
-  refl,
-)
+ack_recovers =
+    recovers_by read read_runs 1 2 3 1 _ (search rules)
+    (record { sender_at = refl; receiver_at = refl; sends = refl; to_receiver = refl; to_sender = refl })
+    refl refl (omega arith) refl (search rules) (refl, refl) refl

@@ -1,21 +1,19 @@
 -- A write whose receiver's store refuses: the receiver sends ERROR 3, and the sender closes by it.
 -- For the law no_end_is_blamed, which is then of some ends.
-use Rattle.tftp_player.proofs.Common.{[], ◌∷◌, Option, Some, Err, refl, arith, rules, slice_get, slice_set, packet_in}
-use Rattle.tftp_player.proofs.Common.{Holding, Sink, DiskFull, Turn, refused_turn, default_terms, OpenEnd, holding_of}
+use Rattle.tftp_player.proofs.Common.{[], ◌∷◌, Option, Some, Err, refl, rules, slice_get, slice_set, packet_in, Holding}
+use Rattle.tftp_player.proofs.Common.{Sink, DiskFull, Turn, refused_turn, default_terms, OpenEnd, holding_of}
 use Rattle.tftp_player.proofs.Common.{WorldState, WorldEnd, ClosedEnd, Open_end, Closed_end, closed_end, datagram}
 use Rattle.tftp_player.proofs.Common.{no_report, report_of, sent_report, world_after, WorldStep, At_open_end, armed_end}
-use Rattle.tftp_player.proofs.Common.{Datagram, Deliver, RefuseStore}
-use Rattle.tftp_negotiate.specs.Negotiation.{occurrences_of}
+use Rattle.tftp_player.proofs.Common.{Datagram, Deliver, RefuseStore, Full}
 use Rattle.tftp_negotiate.specs.declared.known.Kind.TheVariants.{Write}
 use Rattle.tftp_file.specs.Sink.{disarmed}
-use Rattle.tftp_file.specs.declared.fault.StoreFault.TheVariants.{Full}
 use Rattle.tftp_ends.specs.declared.outcome.Outcome.TheVariants as outcomes
 use Rattle.tftp_player.specs.Closing.{SomeEndIsRefused}
 use Rattle.tftp_player.specs.WorldSteps.{armed_to_refuse}
 use Rattle.tftp_player.proofs.SampleDeliveries.{spells, next, delivers}
-use Rattle.tftp_player.proofs.Witness.{config, files_for, new_world_for, asked_world, begun_world, event_for}
-use Rattle.tftp_player.proofs.Witness.{client_for, asks, opens, server_for}
+use Rattle.tftp_player.proofs.Witness.{asked_world, begun_world, client_for, opens, server_for, reached_by}
 use Rattle.tftp_player.proofs.Witnesses.{write, write_runs}
+use Rattle.tftp_negotiate.specs.Negotiation.{occurrences_of}
 
 -- the receiver, set to refuse
 abbrev receiver : OpenEnd
@@ -95,17 +93,8 @@ an_end_is_refused = (
   0,
   closed_in (slice_get told.ends 0),
   Closed_end (closed_in (slice_get told.ends 1)),
-  record {
-    files = files_for Write write;
-    config = config;
-    events =
-        event_for Write write ∷ Deliver 0 ∷ RefuseStore 1025 ∷ Deliver 1 ∷ Deliver 2 ∷ Deliver 3 ∷ [];
-    max_block = (omega arith, omega arith);
-    plays = (
-      asked_world Write write,
-      sent_report (new_world_for Write write),
-      asks Write write write_runs.may,
-      (
+  reached_by Write write write_runs.may
+      (Deliver 0 ∷ RefuseStore 1025 ∷ Deliver 1 ∷ Deliver 2 ∷ Deliver 3 ∷ []) told (
         begun_world Write write,
         sent_report (asked_world Write write),
         opens Write write write_runs,
@@ -126,8 +115,6 @@ an_end_is_refused = (
           ),
         ),
       ),
-    );
-  },
   refl,
   (1, refl),
   refl,

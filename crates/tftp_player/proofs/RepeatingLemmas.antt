@@ -2,23 +2,20 @@
 -- `a_repeat_opens_nothing` and six other files.
 use Rattle.tftp_player.proofs.Common.{◌≡◌, ℕ, ◌<◌, Bool, true, false, List, [], ◌∷◌, ◌++◌, length, Option, Some, None}
 use Rattle.tftp_player.proofs.Common.{refl, sym, ap, ◌∙◌, subst, inl, inr, arith, rules, if◌then◌else◌, slice_get}
-use Rattle.tftp_player.proofs.Common.{slice_set, true≢false, same_Some, Spells, Mode, Packet, Read, Write, Data, Ack}
-use Rattle.tftp_player.proofs.Common.{Error, Oack, Known, Files, Holding, Terms, terms_of, Decodes, Turn, Service}
-use Rattle.tftp_player.proofs.Common.{Silent, Refused, Sends, Takes, request_port, Endpoint, OpenEnd, files_of}
-use Rattle.tftp_player.proofs.Common.{end_after, sending_end, receiving_end, IsRepeated, Repeats, AnyRepeats, served}
-use Rattle.tftp_player.proofs.Common.{service, WorldState, WorldEnd, Open_end, standing, is_closed, Refines}
-use Rattle.tftp_player.proofs.Common.{ServiceStep, Delivery, At_request_port, At_open_end, At_closed_end, At_nobody}
-use Rattle.tftp_player.proofs.Common.{OpeningStep, Stays, Turns, TimeoutStep, armed_end, WorldStep, Event, Get, Put}
-use Rattle.tftp_player.proofs.Common.{Deliver, Timeout, RefuseStore, Stray, Report, slice_get-push_old}
-use Rattle.tftp_player.proofs.Common.{slice_get-set_cases}
-use Rattle.tftp_wire.specs.Reading.{has_error_opcode}
-use Rattle.tftp_ends.specs.declared.error_reply.ErrorReply.TheVariants.{IllegalOperation}
-use Rattle.tftp_server.specs.Port.{Ignores, Refuses}
+use Rattle.tftp_player.proofs.Common.{true≢false, same_Some, Spells, Mode, Packet, Read, Write, Known, Files, Holding}
+use Rattle.tftp_player.proofs.Common.{Terms, terms_of, Decodes, Turn, Service, Silent, Refused, Sends, Takes}
+use Rattle.tftp_player.proofs.Common.{request_port, Endpoint, OpenEnd, end_after, sending_end, receiving_end}
+use Rattle.tftp_player.proofs.Common.{IsRepeated, Repeats, AnyRepeats, served, service, WorldState, WorldEnd, Open_end}
+use Rattle.tftp_player.proofs.Common.{standing, is_closed, Refines, ServiceStep, Delivery, At_request_port, At_open_end}
+use Rattle.tftp_player.proofs.Common.{At_closed_end, At_nobody, OpeningStep, Stays, Turns, armed_end, Report}
+use Rattle.tftp_player.proofs.Common.{has_error_opcode, IllegalOperation, Refuses}
+use Rattle.tftp_server.specs.Port.{Ignores}
 use Rattle.tftp_player.specs.Repeating.{AsksForTransfer, RepeatsOpenNothing, IsNewRequest, OnlyNewRequestsOpen}
 use Rattle.tftp_player.specs.Repeating.{RequestsLast}
 use Rattle.tftp_player.specs.Requests.{WasAskedBy}
 use Rattle.tftp_player.proofs.ServerLemmas.{says_one}
-use Rattle.tftp_player.proofs.TermsKept.{step_has, timeout_has}
+use Rattle.tftp_player.proofs.Changes.{IsTurn, Came, Was, Began, Was_armed, Moved, event_came}
+use Rattle.tftp_player.proofs.TermsKept.{turn_terms}
 
 -- ---- what repeats a request is ignored
 
@@ -122,13 +119,9 @@ module _ (old new : WorldState) (from : Endpoint) (bytes : List ℕ) (report : R
   port_opens : (to : Endpoint) → to ≡ request_port → (decoded : Option Packet) → Decodes bytes decoded →
       (repeated : Bool) → IsRepeated repeated from decoded old.ends →
       Serves_so (service old repeated bytes decoded) → IsNewRequest from to bytes old new
-  port_opens to here None says repeated same s = absurd (no_request (has_error_opcode bytes) s)
   port_opens to here (Some (Read request)) says repeated same s = asked to here (Read request) tt says repeated same s
   port_opens to here (Some (Write request)) says repeated same s = asked to here (Write request) tt says repeated same s
-  port_opens to here (Some (Data number piece)) says repeated same s = absurd (no_request (has_error_opcode bytes) s)
-  port_opens to here (Some (Ack number)) says repeated same s = absurd (no_request (has_error_opcode bytes) s)
-  port_opens to here (Some (Error code text)) says repeated same s = absurd (no_request (has_error_opcode bytes) s)
-  port_opens to here (Some (Oack options)) says repeated same s = absurd (no_request (has_error_opcode bytes) s)
+  port_opens to here decoded says repeated same s = absurd (no_request (has_error_opcode bytes) s)
 
   turned : (k : ℕ) (x : OpenEnd) (turn : Turn) (held : Files (List ℕ) Holding) → Turns old k x turn held report new → ⊥
   turned k x turn held t = search rules
@@ -158,51 +151,18 @@ module _ (from : Endpoint) (packet : Packet) where
   armed_lasts : (x : WorldEnd) → Repeats from packet x → Repeats from packet (armed_end x)
   armed_lasts x r = search rules
 
-  module _ (old new : WorldState) (report : Report) (k : ℕ) (x z : WorldEnd) (there : slice_get old.ends k ≡ Some x)
-      (r : Repeats from packet x) (here : slice_get new.ends k ≡ Some z) where
-    same_end : new.ends ≡ old.ends → Lasts z
-    same_end e o = search rules
-
-    same_world : Stays old report new → Lasts z
-    same_world s = same_end (ap (λ (w : WorldState). w.ends) s.is)
-
-    pushed : (y : OpenEnd) → OpeningStep old y report new → Lasts z
-    pushed y opens o = search (rules, same_Some, slice_get-push_old)
-
-    -- the end at an index was replaced
-    set_at : (j : ℕ) (y a : WorldEnd) → new.ends ≡ slice_set old.ends j a → slice_get old.ends j ≡ Some y →
-        (Repeats from packet y → Lasts a) → Lasts z
-    set_at j y a e at lasts = search (rules, slice_get-set_cases, same_Some)
-
-    at_service : (what : Service) (bytes : List ℕ) (asker : Endpoint) → ServiceStep what old asker bytes report new →
-        Lasts z
-    at_service Silent bytes asker s = same_world s
-    at_service (Refused reply) bytes asker s = same_end (ap (λ (w : WorldState). w.ends) s.1)
-    at_service (Sends path mode count agreed) bytes asker s = pushed _ s.2
-    at_service (Takes path mode agreed) bytes asker s = pushed _ s
-
-    at_arrival : (by to : Endpoint) (bytes : List ℕ) → Delivery old by to bytes report new → Lasts z
-    at_arrival by to bytes (At_request_port asked port decoded says repeated same s) = at_service _ bytes by s
-    at_arrival by to bytes (At_open_end j y there_now at t) =
-        set_at j (Open_end y) (standing (end_after y t.turn t.held)) (ap (λ (w : WorldState). w.ends) t.turns.is)
-        there_now
-        (turn_lasts y t.turn t.held
-        (λ agreed h. step_has agreed _ by bytes y.state (files_of y) t.held t.turn h t.steps))
-    at_arrival by to bytes (At_closed_end j y there_now at s) = same_world s
-    at_arrival by to bytes (At_nobody away nobody s) = same_world s
-
-    at_timeout : (j : ℕ) (y : WorldEnd) → slice_get old.ends j ≡ Some y → TimeoutStep old j y report new → Lasts z
-    at_timeout j y at h3 = search (rules, same_world, set_at, turn_lasts, timeout_has)
-
-    at_event : (event : Event) → WorldStep old event report new → Lasts z
-    at_event (Get name mode asked) s = pushed _ s.2
-    at_event (Put name mode asked bytes) s = pushed _ s.2
-    at_event (Deliver i) s = at_arrival _ _ _ s.2
-    at_event (Timeout port) s = at_timeout s.0 s.1 s.2.there s.3
-    at_event (RefuseStore port) s =
-        set_at s.0 s.1 (armed_end s.1) (ap (λ (w : WorldState). w.ends) s.4) s.2.there (λ own o. armed_lasts s.1 own)
-    at_event (Stray by to bytes) s = at_arrival _ _ _ s.1
+  -- however an end came to be that repeated it
+  came_lasts : (w : WorldState) (k : ℕ) (x z : WorldEnd) → slice_get w.ends k ≡ Some x → Repeats from packet x →
+      Came (IsTurn w) w k z → Lasts z
+  came_lasts w k x z there r (Was y i) o = subst (Repeats from packet) (same_Some x y (sym there ∙ i)) r
+  came_lasts w k x z there r (Began y none begins) o = absurd (let f : None ≡ Some x = sym none ∙ there in cc)
+  came_lasts w k x z there r (Was_armed y i) o =
+      armed_lasts y (subst (Repeats from packet) (same_Some x y (sym there ∙ i)) r)
+  came_lasts w k x z there r (Moved y turn held i t) o =
+      turn_lasts y turn held (turn_terms w y turn held t)
+      (subst (Repeats from packet) (same_Some x (Open_end y) (sym there ∙ i)) r) o
 
 -- a request is repeated as long as its end is open
 pub requests_last : RequestsLast
-requests_last old new event report from packet k x y s there r here open_now = search (rules, at_event)
+requests_last old new event report from packet k x y s there r here open_now =
+    came_lasts from packet old k x y there r (event_came old new event report s k y here) open_now

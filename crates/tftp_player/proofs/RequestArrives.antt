@@ -1,64 +1,70 @@
 -- A client's request arrives at the port of its server, which accepts it: the transfer completes.
 -- For StraightOpenings and RecoveringRequests.
-use Rattle.tftp_player.proofs.Common.{◌≡◌, ℕ, ◌+◌, ◌*◌, ◌-◌, ◌<◌, Bool, true, false, List, [], ◌∷◌, ◌++◌, length, Some}
-use Rattle.tftp_player.proofs.Common.{refl, sym, ap, ◌∙◌, subst, arith, rules, slice_get, IsAccepted, read_adds}
-use Rattle.tftp_player.proofs.Common.{write_adds, Oack, Data, Ack, Mode, Packet, Spells, size, agreed_options}
-use Rattle.tftp_player.proofs.Common.{agreement, Asked, Known, DEFAULT_BLOCK, block, block_count, Fits, wire_text}
-use Rattle.tftp_player.proofs.Common.{Waiting, Receiving, Terms, is_sender, oack_bytes, ack_bytes, data_bytes}
-use Rattle.tftp_player.proofs.Common.{default_terms, agreed_terms, accept_action, begin_action, begin_with_action}
-use Rattle.tftp_player.proofs.Common.{writer_action, Service, Sends, Takes, request_port, Endpoint, OpenEnd, peer_of}
-use Rattle.tftp_player.proofs.Common.{answer_granted, slice_get-push_old, slice_get-push_new, spells_own, own_oack}
-use Rattle.tftp_player.proofs.Common.{taken_oack, agreed_size, sending_end, receiving_end, TakesPeer, WorldState}
-use Rattle.tftp_player.proofs.Common.{WorldEnd, Open_end, datagram, file_at, OpeningStep, ServiceStep}
+use Rattle.tftp_player.proofs.Common.{◌≡◌, ℕ, ◌+◌, ◌*◌, ◌-◌, ◌<◌, Bool, false, List, [], ◌∷◌, ◌++◌, length, Some, refl}
+use Rattle.tftp_player.proofs.Common.{sym, ap, ◌∙◌, subst, arith, rules, slice_get, IsAccepted, read_adds, write_adds}
+use Rattle.tftp_player.proofs.Common.{Oack, Data, Ack, Mode, Packet, Spells, size, agreed_options, agreement, Asked}
+use Rattle.tftp_player.proofs.Common.{Known, DEFAULT_BLOCK, block, block_count, Fits, wire_text, Waiting, Receiving}
+use Rattle.tftp_player.proofs.Common.{Terms, oack_bytes, ack_bytes, data_bytes, default_terms, agreed_terms}
+use Rattle.tftp_player.proofs.Common.{accept_action, begin_action, begin_with_action, writer_action, Service, Sends}
+use Rattle.tftp_player.proofs.Common.{Takes, request_port, Endpoint, OpenEnd, peer_of, answer_granted}
+use Rattle.tftp_player.proofs.Common.{slice_get-push_old, slice_get-push_new, spells_own, own_oack, taken_oack}
+use Rattle.tftp_player.proofs.Common.{agreed_size, sending_end, receiving_end, TakesPeer, WorldState, WorldEnd}
+use Rattle.tftp_player.proofs.Common.{Open_end, datagram, file_at, OpeningStep, ServiceStep, TakesAnswer}
 use Rattle.std.proofs.Common.{◌^◌}
-use Rattle.tftp_player.specs.Straight.{TakesAnswer}
 use Rattle.tftp_negotiate.specs.declared.known.Kind.TheVariants as kinds
-use Rattle.tftp_player.proofs.AnsweringEnds.{IsWaitedFor, meeting}
-use Rattle.tftp_player.proofs.RecoveringReads.{by_data, by_oack}
-use Rattle.tftp_player.proofs.RecoveringWrites.{sends_y, writes}
+use Rattle.tftp_player.proofs.AnsweringEnds.{Meeting, sides, kept_y}
+use Rattle.tftp_player.proofs.RecoveringAnswers.{by_data, by_oack, sends_y, writes}
 use Rattle.tftp_player.proofs.RunsLeft.{IsWilling, IsLeft, GoesOn, Reaches, walks}
 use Rattle.tftp_player.proofs.SentAgain.{data_short}
 use Rattle.tftp_player.proofs.StraightPort.{HasOpened, accepted_answers, has_opened, port_comes}
 use Rattle.tftp_player.proofs.StraightRuns.{IsReady, ready_next}
-use Rattle.tftp_player.proofs.StraightSteps.{ports_of}
-use Rattle.tftp_player.proofs.WorldFacts.{spoken}
+use Rattle.tftp_player.proofs.WorldFacts.{mode_same, spoken}
 use Rattle.tftp_player.proofs.WorldKeeps.{answered_values}
-use Rattle.tftp_player.proofs.WorldRuns.{contains_at}
+use Rattle.tftp_player.proofs.Changes.{contains_at}
 
 -- the request of a client that waits is the only datagram to be delivered, and the port accepts it
 pub record Asks (w : WorldState) (k i : ℕ) (c : OpenEnd) (asked : Asked) (limit : ℕ) (accepts : Service) : Type 0 where
-  pub ready : IsReady true w i (datagram c.address request_port c.state.position.last_sent)
+  pub ready : IsReady w i (datagram c.address request_port c.state.position.last_sent)
   pub client_at : slice_get w.ends k ≡ Some (Open_end c)
   pub waits : c.state.position.phase ≡ Waiting asked limit
   pub accepted : IsAccepted w c accepts
 
 -- ---- the port opens an end
-module _ (w new : WorldState) (k i : ℕ) (c : OpenEnd) (asked : Asked) (limit : ℕ) (accepts : Service)
+module _ {w new : WorldState} {k i : ℕ} {c : OpenEnd} {asked : Asked} {limit : ℕ} {accepts : Service}
     (asks : Asks w k i c asked limit accepts) (reads : Bool) (g : GoesOn reads w i new) where
   comes : ServiceStep accepts w c.address c.state.position.last_sent g.report g.mid
-  comes =
-      port_comes w g.mid i c g.report accepts (ports_of true w asks.ready.ok) asks.accepted asks.ready.newest g.step
+  comes = port_comes w g.mid i c g.report accepts asks.ready.ok.ports asks.accepted asks.ready.newest g.step
 
   module _ (x : OpenEnd) (peer_is : peer_of x.state.position.phase ≡ Some c.address)
       (to_is : x.state.position.last_sent_to ≡ c.address) (opens : OpeningStep w x g.report g.mid) where
     opened : HasOpened w g.mid x
     opened = has_opened w g.mid x g.report opens
 
-    waited_for : IsWaitedFor g.mid (length w.ends) k x c asked limit
-    waited_for = assumption (
-      ap (λ (xs : List WorldEnd). slice_get xs (length w.ends)) opened.ends ∙ slice_get-push_new
-          w.ends (Open_end x),
-      ap (λ (xs : List WorldEnd). slice_get xs k) opened.ends ∙ slice_get-push_old w.ends k
-          (Open_end x) (Open_end c) asks.client_at,
-    )
-
-    offered : IsReady true g.mid (i + 1) (datagram x.address c.address x.state.position.last_sent)
+    offered : IsReady g.mid (i + 1) (datagram x.address c.address x.state.position.last_sent)
     offered =
-        ready_next _ w _ i _ _ _ asks.ready g.step (opened.sent ∙ ap (λ (p : Endpoint). w.sent ++ datagram x.address p
+        ready_next w _ i _ _ _ asks.ready g.step (opened.sent ∙ ap (λ (p : Endpoint). w.sent ++ datagram x.address p
         x.state.position.last_sent ∷ []) to_is)
 
-    mode_is : c.state.role.mode ≡ x.state.role.mode
-    mode_is = (meeting g.mid offered.ok (length w.ends) k x c asked limit waited_for).mode_same
+    -- which is for the client that waits
+    abbrev meets : Meeting
+    meets = record {
+      w = g.mid;
+      ok = offered.ok;
+      one = length w.ends;
+      other = k;
+      x = x;
+      y = c;
+      asked = asked;
+      limit = limit;
+      server_at =
+          ap (λ (xs : List WorldEnd). slice_get xs (length w.ends)) opened.ends
+          ∙ slice_get-push_new w.ends (Open_end x);
+      client_at =
+          ap (λ (xs : List WorldEnd). slice_get xs k) opened.ends
+          ∙ slice_get-push_old w.ends k (Open_end x) (Open_end c) asks.client_at;
+      to_client = peer_is;
+      waits = asks.waits;
+    }
 
 -- ---- of a read
 module _ (w new : WorldState) (k i : ℕ) (c : OpenEnd) (asked : Asked) (limit : ℕ) (path file : List ℕ) (mode : Mode)
@@ -74,27 +80,25 @@ module _ (w new : WorldState) (k i : ℕ) (c : OpenEnd) (asked : Asked) (limit :
     -- it sends the file
     sends : (g : GoesOn reads w i new) → OpeningStep w server g.report g.mid
     sends g =
-        let p = comes w new k i c asked limit (Sends path mode measured agreed) asks reads g in
+        let p = comes asks reads g in
         search rules
 
   plainly : (asks : Asks w k i c asked limit (Sends path mode measured [])) → file_at w.files path ≡ Some file →
       Reaches new (length w.ends) k i (length left.reports) (read_adds mode file [])
   plainly asks there =
-      let accepts = Sends path mode measured [] in
       let x = server [] asks there in
       let piece = block text DEFAULT_BLOCK 1 in
       let count : 2 + 2 * (block_count text DEFAULT_BLOCK - 1) + 1 ≡ read_adds mode file [] = omega arith in
       subst (λ (n : ℕ). Reaches new (length w.ends) k i (length left.reports) n) count (walks reads w new (length
       w.ends) k i (2 + 2 * (block_count text DEFAULT_BLOCK - 1)) asks.ready.count left (λ g.
       let opens = sends [] asks there g in
-      let at = offered w new k i c asked limit accepts asks reads g x refl refl opens in
-      let waits = waited_for w new k i c asked limit accepts asks reads g x refl refl opens in
+      let at = offered asks reads g x refl refl opens in
       let said =
       spoken g.mid at.ok x.address c.address (data_bytes 1 piece) (contains_at g.mid.sent (i + 1) (datagram x.address
       c.address (data_bytes 1 piece)) at.newest) in
       let spelled = spells_own (Data 1 piece) (λ e. omega (arith, e), omega arith, data_short 1 piece said.0 said.1) in
-      by_data g.mid new (length w.ends) k (i + 1) x c asked limit (data_bytes 1 piece) at waits (default_terms
-      c.address) 1 refl reads willing g.left 1 piece spelled))
+      by_data (meets asks reads g x refl refl opens) new (i + 1) (data_bytes 1 piece) at (default_terms c.address) 1
+      refl reads willing g.left 1 piece spelled))
 
   by_options : (known : Known) (others : List Known)
       (asks : Asks w k i c asked limit (Sends path mode measured (known ∷ others))) →
@@ -102,10 +106,9 @@ module _ (w new : WorldState) (k i : ℕ) (c : OpenEnd) (asked : Asked) (limit :
       Reaches new (length w.ends) k i (length left.reports) (read_adds mode file (known ∷ others))
   by_options known others asks there answered =
       let agreed = known ∷ others in
-      let accepts = Sends path mode measured agreed in
       let x = server agreed asks there in
       let max = asks.ready.ok.max_block in
-      let answers = accepted_answers w c accepts asks.accepted in
+      let answers = accepted_answers w c (Sends path mode measured agreed) asks.accepted in
       let agreeable = answered_values kinds.Read mode measured w.limits answers.0 agreed max answers.1 in
       let sizes = agreed_size agreed agreeable in
       let counted : measured < 2 ^ 64 = let few = answers.2 in let small = sizes.1 in omega (arith, few, small) in
@@ -117,13 +120,13 @@ module _ (w new : WorldState) (k i : ℕ) (c : OpenEnd) (asked : Asked) (limit :
       subst (λ (n : ℕ). Reaches new (length w.ends) k i (length left.reports) n) count (walks reads w new (length
       w.ends) k i (2 + 2 * (blocks - 0)) asks.ready.count left (λ g.
       let opens = sends agreed asks there g in
-      let at = offered w new k i c asked limit accepts asks reads g x refl refl opens in
-      let waits = waited_for w new k i c asked limit accepts asks reads g x refl refl opens in
-      let same = mode_is w new k i c asked limit accepts asks reads g x refl refl opens in
+      let same : c.state.role.mode ≡ x.state.role.mode =
+      mode_same (sides (meets asks reads g x refl refl opens)) in
       let takes : TakesPeer (accept_action x.address (agreement asked kinds.Read c.state.role.mode (agreed_options
       agreed) limit)) = search rules in
-      by_oack g.mid new (length w.ends) k (i + 1) x c asked limit (oack_bytes agreed) at waits (agreed_terms c.address
-      agreed) 0 refl reads willing g.left (agreed_options agreed) spelled takes))
+      by_oack (meets asks reads g x refl refl opens) new (i + 1) (oack_bytes agreed)
+      (offered asks reads g x refl refl opens) (agreed_terms c.address agreed) 0 refl reads willing g.left
+      (agreed_options agreed) spelled takes))
 
   -- it completes, with as many datagrams as a read without loss
   pub read_on : (agreed : List Known) → Asks w k i c asked limit (Sends path mode measured agreed) →
@@ -142,9 +145,6 @@ module _ (w new : WorldState) (k i : ℕ) (c : OpenEnd) (asked : Asked) (limit :
   written = wire_text mode c.file
 
   module _ (agreed : List Known) (asks : Asks w k i c asked limit (Takes path mode agreed)) where
-    abbrev accepts_it : Service
-    accepts_it = Takes path mode agreed
-
     abbrev taker : OpenEnd
     taker = receiving_end w c.address c.state.position.last_sent mode path agreed
 
@@ -154,26 +154,22 @@ module _ (w new : WorldState) (k i : ℕ) (c : OpenEnd) (asked : Asked) (limit :
         (peer_is : peer_of taker.state.position.phase ≡ Some c.address)
         (to_is : taker.state.position.last_sent_to ≡ c.address) (mode_so : taker.state.role.mode ≡ mode) where
       abbrev opens : OpeningStep w taker g.report g.mid
-      opens = comes w new k i c asked limit accepts_it asks false g
+      opens = comes asks false g
 
-      abbrev waits : IsWaitedFor g.mid (length w.ends) k taker c asked limit
-      waits = waited_for w new k i c asked limit accepts_it asks false g taker peer_is to_is opens
+      abbrev both : Meeting
+      both = meets asks false g taker peer_is to_is opens
 
-      at : IsReady true g.mid (i + 1) (datagram taker.address c.address bytes)
-      at = rw (← sent) (offered w new k i c asked limit accepts_it asks false g taker peer_is to_is opens)
-
-      sends_it : is_sender c.state.role.side ≡ true
-      sends_it = sends_y g.mid new (length w.ends) k (i + 1) taker c asked limit bytes at waits rt 0 phase g.left
+      at : IsReady g.mid (i + 1) (datagram taker.address c.address bytes)
+      at = rw (← sent) (offered asks false g taker peer_is to_is opens)
 
       mode_then : c.state.role.mode ≡ mode
-      mode_then = mode_is w new k i c asked limit accepts_it asks false g taker peer_is to_is opens ∙ mode_so
+      mode_then = mode_same (sides both) ∙ mode_so
 
       text_is : c.text ≡ written
-      text_is =
-          (at.ok.ends k (Open_end c) waits.client_at).text ∙ ap (λ (q : Mode). wire_text q c.file) mode_then
+      text_is = (both.ok.ends k (Open_end c) both.client_at).text ∙ ap (λ (q : Mode). wire_text q c.file) mode_then
 
       length_is : c.state.role.length ≡ length written
-      length_is = (meeting _ at.ok _ k _ c _ _ waits).kept_y.5 sends_it ∙ ap length text_is
+      length_is = (kept_y both).5 (sends_y both new (i + 1) bytes at rt 0 phase g.left) ∙ ap length text_is
 
       goes_on_by : (p : Packet) → Spells p bytes → rt.size ≡ size agreed →
           TakesPeer (writer_action c.state.role.mode asked limit c.state.role.length taker.address (Some p)) →
@@ -181,8 +177,7 @@ module _ (w new : WorldState) (k i : ℕ) (c : OpenEnd) (asked : Asked) (limit :
       goes_on_by p spelled same takes =
           subst (λ (n : ℕ). Reaches new k (length w.ends) (i + 1) (length g.left.reports) (1 + 2 * n))
           (ap (λ (t : List ℕ). block_count t rt.size) text_is ∙ ap (block_count written) same)
-          (writes g.mid new (length w.ends) k (i + 1) taker c asked limit bytes at waits rt 0 phase g.left p spelled
-          takes)
+          (writes both new (i + 1) bytes at rt 0 phase g.left p spelled takes)
 
     -- the request arrives, and the port's answer
     writes_on : (rt : Terms) (bytes : List ℕ) → taker.state.position.last_sent ≡ bytes →

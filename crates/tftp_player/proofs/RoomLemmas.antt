@@ -2,29 +2,24 @@
 -- ServedLemmas.
 use Rattle.tftp_player.proofs.Common.{◌≡◌, ◌≤◌, ℕ, Bool, true, false, List, [], ◌∷◌, length, Option, Some, None, Result}
 use Rattle.tftp_player.proofs.Common.{Ok, Err, sym, subst, arith, rules, ◌+◌, ◌*◌, nat_lt, is_some, option_map}
-use Rattle.tftp_player.proofs.Common.{if◌then◌else◌, Mode, Packet, Read, Write, Data, Ack, Error, Oack, size, agreement}
-use Rattle.tftp_player.proofs.Common.{Asked, Known, Blksize, DEFAULT_BLOCK, Refusal, Files, Source, Sink, Action}
-use Rattle.tftp_player.proofs.Common.{Respond, Send, Store, Response, Retransmit, Phase, Terms, packet_action}
-use Rattle.tftp_player.proofs.Common.{datagram_action, EndState, record_of, size_of, terms_of, AreFilesOf}
-use Rattle.tftp_player.proofs.Common.{receiver_action, next_action, Turn, DatagramStep, Acts, AcksAgain, reply_bytes}
-use Rattle.tftp_player.proofs.Common.{reader_action, writer_action, accept_action, begin_action, begin_with_action}
-use Rattle.tftp_player.proofs.Common.{default_terms, answer_room}
+use Rattle.tftp_player.proofs.Common.{if◌then◌else◌, Mode, Packet, Ack, Oack, size, agreement, Asked, Known, Blksize}
+use Rattle.tftp_player.proofs.Common.{DEFAULT_BLOCK, Refusal, Files, Source, Sink, Action, Respond, Send, Store}
+use Rattle.tftp_player.proofs.Common.{Response, Retransmit, Phase, Terms, packet_action, datagram_action, EndState}
+use Rattle.tftp_player.proofs.Common.{record_of, size_of, terms_of, AreFilesOf, receiver_action, next_action, Turn}
+use Rattle.tftp_player.proofs.Common.{DatagramStep, Acts, AcksAgain, reply_bytes, reader_action, writer_action}
+use Rattle.tftp_player.proofs.Common.{accept_action, begin_action, begin_with_action, default_terms, answer_room}
+use Rattle.tftp_player.proofs.Common.{AllByRecursion, dally_response, refusal_action, AgreesWithin, Endpoint}
 use Rattle.std.proofs.Common.{◌==◌, max}
-use Rattle.std.specs.List.{AllByRecursion}
 use Rattle.tftp_wire.specs.declared.limits.TheConstants.{HEADER}
 use Rattle.tftp_negotiate.specs.Laws.{IsWithinAsked}
 use Rattle.tftp_negotiate.specs.declared.known.Kind.TheVariants as kinds
-use Rattle.tftp_negotiate.specs.declared.known.Known.TheVariants.{Timeout, Tsize}
 use Rattle.tftp_negotiate.proofs.LawsLemmas.{takes_nothing_unasked}
 use Rattle.tftp_file.specs.Source.{SourceMeaning}
 use Rattle.tftp_file.specs.Sink.{SinkMeaning}
-use Rattle.tftp_ends.specs.declared.endpoint.Endpoint.{Endpoint}
 use Rattle.tftp_ends.specs.declared.reply.TheConstants.{MAX_ERROR}
 use Rattle.tftp_ends.specs.Action.{garbled_response}
-use Rattle.tftp_ends.specs.Receiver.{dally_response}
 use Rattle.tftp_ends.specs.Sender.{sender_action}
-use Rattle.tftp_ends.specs.Waiting.{refusal_action}
-use Rattle.tftp_player.specs.Room.{AgreesWithin, block_within, largest_block}
+use Rattle.tftp_player.specs.Room.{block_within, largest_block}
 
 -- ---- what an action may send
 -- it is no retransmission
@@ -73,8 +68,7 @@ module _ (most : ℕ) where
       AllByRecursion (IsWithinAsked asked kinds.Write mode limit) known → size known ≤ largest_block asked.blksize
   agreed_within asked mode limit [] h = default_within asked.blksize
   agreed_within asked mode limit (Blksize n ∷ known) h = asked_within asked.blksize n h.0.1 h.0.2 h.0.3
-  agreed_within asked mode limit (Timeout n ∷ known) h = agreed_within asked mode limit known h.1
-  agreed_within asked mode limit (Tsize n ∷ known) h = agreed_within asked mode limit known h.1
+  agreed_within asked mode limit (other ∷ known) h = agreed_within asked mode limit known h.1
 
   refusal_fits : (refusal : Refusal) → Fits (refusal_action refusal)
   refusal_fits refusal = search rules
@@ -96,19 +90,15 @@ module _ (most : ℕ) where
 
   writer_fits : (mode : Mode) (asked : Asked) (limit count : ℕ) (from : Endpoint) (decoded : Option Packet) →
       largest_block asked.blksize ≤ most → Fits (writer_action mode asked limit count from decoded)
-  writer_fits mode asked limit count from None w = tt
-  writer_fits mode asked limit count from (Some (Read request)) w = tt
-  writer_fits mode asked limit count from (Some (Write request)) w = tt
-  writer_fits mode asked limit count from (Some (Data number piece)) w = tt
   writer_fits mode asked limit count from (Some (Ack acked)) w =
       let d = default_within asked.blksize in
       either (acked == 0) _ _ (begin_fits count (default_terms from) (omega (arith, d, w))) tt
-  writer_fits mode asked limit count from (Some (Error code text)) w = tt
   writer_fits mode asked limit count from (Some (Oack options)) w =
       begin_with_fits from count (agreement asked kinds.Write mode options limit)
       (λ known e. let l =
       agreed_within asked mode limit known (takes_nothing_unasked asked kinds.Write mode options limit known e).1 in
       omega (arith, l, w))
+  writer_fits mode asked limit count from decoded w = tt
 
   -- ---- an end in any phase
   abbrev Within : Phase → Type 0

@@ -2,7 +2,7 @@
 use Rattle.tftp_player.proofs.Common.{◌≡◌, ℕ, ◌+◌, ◌<◌, ◌≤◌, suc, Bool, true, false, List, [], ◌∷◌, length, Some, ap}
 use Rattle.tftp_player.proofs.Common.{subst, arith, rules, slice_get, ⊤, slice_get_within, is_client, OpenEnd, TookAll}
 use Rattle.tftp_player.proofs.Common.{AllTaken, WorldState, WorldEnd, IsComplete, WorldStep, Settles, Deliver, Report}
-use Rattle.tftp_player.specs.Straight.{Ends}
+use Rattle.tftp_player.proofs.Common.{Ends}
 
 -- ---- the premise on the stores of a run that does not read: for a client that reads it follows
 -- the claim holds of writes
@@ -90,11 +90,11 @@ ends_here reads w v one other i over l = by l.reports l.settles where
       (let within = slice_get_within w.sent i s.1.0 s.1.1 in let none = over.counted in omega (arith, within, none))
 
 -- a read ends after so many deliveries
-pub reader_ends : (old new : WorldState) (made n count : ℕ) → n ≡ count →
-    Reaches new (length old.ends + 1) (length old.ends) (length old.sent) made n → Ends old new made count
-reader_ends old new made n count is r = search rules
+pub reader_ends : (old new : WorldState) (made count : ℕ) →
+    Reaches new (length old.ends + 1) (length old.ends) (length old.sent) made count → Ends old new made count
+reader_ends old new made count r = search rules
 
 -- a write ends after so many deliveries
-pub writer_ends : (old new : WorldState) (made n count : ℕ) → n ≡ count →
-    Reaches new (length old.ends) (length old.ends + 1) (length old.sent) made n → Ends old new made count
-writer_ends old new made n count is r = search rules
+pub writer_ends : (old new : WorldState) (made count : ℕ) →
+    Reaches new (length old.ends) (length old.ends + 1) (length old.sent) made count → Ends old new made count
+writer_ends old new made count r = search rules

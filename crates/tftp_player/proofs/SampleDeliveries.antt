@@ -9,17 +9,16 @@ use Rattle.tftp_player.proofs.Common.{sent_turn, ack_bytes, timeout_turn, OpenEn
 use Rattle.tftp_player.proofs.Common.{Behaves, WorldState, WorldEnd, Open_end, Closed_end, StoredFile, file_at}
 use Rattle.tftp_player.proofs.Common.{in_the_way, has_committed, no_report, report_of, world_after, PlaysAll}
 use Rattle.tftp_player.proofs.Common.{FilesAfter, Settles, At_open_end, WorldStep, may_refuse_commit, world_sink}
-use Rattle.tftp_player.proofs.Common.{Datagram, Event, Deliver, Timeout, Report}
+use Rattle.tftp_player.proofs.Common.{Datagram, Event, Deliver, Timeout, Report, UnlessArmed, block_length, Decoded}
+use Rattle.tftp_player.proofs.Common.{StoresTake}
 use Rattle.std.proofs.Common.{cond, get_or}
 use Rattle.std.specs.BTreeMap.{is_at}
 use Rattle.std.proofs.lemmas.Map.Text.{is_eq-slice_cmp}
 use Rattle.tftp_wire.specs.Reading.{first_fault}
 use Rattle.tftp_wire.proofs.SpellingLemmas.{fault_where_nothing}
-use Rattle.tftp_file.specs.Sink.{UnlessArmed, with_piece}
+use Rattle.tftp_file.specs.Sink.{with_piece}
 use Rattle.tftp_store.specs.Store.{path_cmp}
-use Rattle.tftp_ends.specs.Step.{block_length, filled_turn}
-use Rattle.tftp_ends.specs.Text.{Decoded}
-use Rattle.tftp_player.specs.Recovering.{StoresTake}
+use Rattle.tftp_ends.specs.Step.{filled_turn}
 
 -- ---- bytes, and the packet that they spell
 -- each number is a byte

@@ -2,18 +2,17 @@
 -- For the laws on recovery, and for what ERRORs say (ErrorAnswers).
 use Rattle.tftp_player.proofs.Common.{common_steps, ◌≡◌, ℕ, ◌+◌, ◌-◌, ◌<◌, ◌≤◌, true, List, [], ◌∷◌, ◌++◌, length}
 use Rattle.tftp_player.proofs.Common.{Option, Some, None, sym, ap, ◌∙◌, subst, arith, rules, ◌≢◌, slice_get, slice_set}
-use Rattle.tftp_player.proofs.Common.{same_Some, MAX_BLOCK, RawOption, Packet, Oack, Spells, canonical, memory_source}
-use Rattle.tftp_player.proofs.Common.{Holding, StoreFault, Action, Respond, ResendReply, Retransmit, Phase, Waiting}
-use Rattle.tftp_player.proofs.Common.{Sending, Receiving, Dallying, Closed, is_client, outcome_of, datagram_action}
-use Rattle.tftp_player.proofs.Common.{timeout_response, Turn, Acts, AcksAgain, Reply, response_turn, after_turn}
-use Rattle.tftp_player.proofs.Common.{ack_bytes, data_bytes, timeout_turn, Endpoint, OpenEnd, files_of, decoded_is}
-use Rattle.tftp_player.proofs.Common.{WorldState, Open_end, datagram, in_the_way, file_at, Refines, world_sink}
-use Rattle.tftp_player.proofs.Common.{may_refuse_commit, WorldStep, Turns, Timeout, Report, slice_get-push_new}
-use Rattle.tftp_player.proofs.Common.{Datagram, Event}
+use Rattle.tftp_player.proofs.Common.{same_Some, MAX_BLOCK, RawOption, Packet, Oack, Spells, canonical, Respond}
+use Rattle.tftp_player.proofs.Common.{ResendReply, Retransmit, Phase, Waiting, Sending, Receiving, Dallying, Closed}
+use Rattle.tftp_player.proofs.Common.{outcome_of, datagram_action, timeout_response, Turn, AcksAgain, Reply}
+use Rattle.tftp_player.proofs.Common.{response_turn, ack_bytes, data_bytes, timeout_turn, Endpoint, OpenEnd, files_of}
+use Rattle.tftp_player.proofs.Common.{WorldState, Open_end, datagram, Refines, WorldStep, Turns, Timeout, Report}
+use Rattle.tftp_player.proofs.Common.{slice_get-push_new, Datagram, Event, is_sender, Response, Outcome, end_after}
+use Rattle.tftp_player.proofs.Common.{by_outcome, with_position, in_state, replied, standing}
 use Rattle.tftp_ends.specs.End.{number_of}
 use Rattle.tftp_ends.specs.Step.{IsAck}
-use Rattle.tftp_rules.specs.OpenEnds.{in_state}
-use Rattle.tftp_player.proofs.StraightSteps.{ports_of, Handles}
+use Rattle.tftp_rules.specs.OpenEnds.{with_files}
+use Rattle.tftp_player.proofs.StraightSteps.{Handles, acts_as, decoded_as, sent_by, ends_by, same_with}
 use Rattle.tftp_player.proofs.StraightRuns.{IsReady}
 use Rattle.tftp_player.proofs.WorldRuns.{step_keeps}
 
@@ -34,28 +33,21 @@ pub data_short : (n : ℕ) (piece : List ℕ) (p : Packet) → Spells p (data_by
 data_short n piece p s = search rules
 
 -- ---- a receiver acknowledges again
--- the end has acknowledged again
+-- the end has acknowledged again, and is as it was
 pub record Again (w v : WorldState) (k : ℕ) (x : OpenEnd) (from : Endpoint) (n : ℕ) : Type 0 where
-  pub y : OpenEnd
   pub sent : v.sent ≡ w.sent ++ datagram x.address from (ack_bytes n) ∷ []
-  pub ends : v.ends ≡ slice_set w.ends k (Open_end y)
-  pub address : y.address ≡ x.address
-  pub mode : y.state.role.mode ≡ x.state.role.mode
-  pub side : y.state.role.side ≡ x.state.role.side
-  pub phase : y.state.position.phase ≡ x.state.position.phase
-  pub stored : y.stored ≡ x.stored
-  pub held_back : y.state.position.held_back ≡ x.state.position.held_back
-  pub refuses : y.refuses ≡ x.refuses
-  pub role : y.state.role ≡ x.state.role
-  pub last_sent : y.state.position.last_sent ≡ x.state.position.last_sent
-  pub retries : y.state.position.retries_left ≡ x.state.position.retries_left
-  -- its newest datagram is that ACK
-  pub acks : x.state.position.last_sent ≡ ack_bytes n
+  pub ends : v.ends ≡ slice_set w.ends k (Open_end x)
 
 -- a reply that is an ACK has the bytes of one
 pub acked_bytes : (n : ℕ) (reply : Option Reply) (to : Endpoint) (bytes : List ℕ) →
     reply ≡ Some (record { to = to; bytes = bytes }) → IsAck n reply → bytes ≡ ack_bytes n
 acked_bytes n reply to bytes e a = search rules
+
+-- an open end whose turn left it with its files stands as it was
+stands_still : (x : OpenEnd) → outcome_of x.state.position.phase ≡ None →
+    standing (with_files x (files_of x)) ≡ Open_end x
+stands_still x still =
+    ap standing (same_with (is_sender x.state.role.side) x) ∙ ap (λ (o : Option Outcome). by_outcome o x) still
 
 -- it does so on a datagram whose action is to send its reply again
 pub handles_again : (w v : WorldState) (k : ℕ) (x : OpenEnd) (from : Endpoint) (bytes : List ℕ) (report : Report) (n : ℕ)
@@ -63,54 +55,50 @@ pub handles_again : (w v : WorldState) (k : ℕ) (x : OpenEnd) (from : Endpoint)
     datagram_action x.state from bytes (Some packet) ≡ Respond ResendReply →
     outcome_of x.state.position.phase ≡ None → number_of x.state.position.phase ≡ n → Again w v k x from n
 handles_again w v k x from bytes report n packet h spelled is still number =
-    let action_is : datagram_action x.state from bytes h.steps.decoded ≡ Respond ResendReply =
-    ap (datagram_action x.state from bytes) (decoded_is bytes packet h.steps.decoded spelled h.steps.says) ∙ is in
-    let refuses_commit : Holding → StoreFault → Type 0 =
-    may_refuse_commit (is_client x.state.role.side) (in_the_way w.overwrite (file_at w.files x.path)) in
-    let a =
-    subst (λ (action : Action). Acts memory_source (world_sink refuses_commit) action from bytes x.state (files_of x)
-    h.turn h.held) action_is h.steps.acts in
-    let g = subst (λ (action : Action). AcksAgain x.state h.turn action) action_is h.steps.again in
     let turn = response_turn ResendReply from x.state in
-    let z = in_state (after_turn x.state turn) x in
-    let said_again : x.state.position.last_sent ≡ ack_bytes n =
+    let a = acts_as h packet (Respond ResendReply) spelled is in
+    let g = subst (AcksAgain x.state h.turn) (decoded_as h packet (Respond ResendReply) spelled is) h.steps.again in
+    let acked : x.state.position.last_sent ≡ ack_bytes n =
     acked_bytes (number_of x.state.position.phase) h.turn.reply from x.state.position.last_sent (ap (λ (t : Turn).
     t.reply) a.0) g ∙ ap ack_bytes number in
-    search rules
+    record {
+      sent = sent_by h turn a.0 ∙ ap (λ (b : List ℕ). w.sent ++ datagram x.address from b ∷ []) acked;
+      ends = ends_by h turn (files_of x) a.0 a.1 ∙ ap (slice_set w.ends k) (stands_still x still);
+    }
 
 -- ---- an end sends again
+-- the end with one retry less
+abbrev pub retried : OpenEnd → OpenEnd
+retried x =
+    in_state (with_position (record x.state.position { retries_left = x.state.position.retries_left - 1 }) x.state) x
+
 -- the end has sent its newest datagram again
 pub record Resent (w v : WorldState) (k : ℕ) (x : OpenEnd) : Type 0 where
-  pub y : OpenEnd
   pub sent : v.sent ≡ w.sent ++ datagram x.address x.state.position.last_sent_to x.state.position.last_sent ∷ []
-  pub ends : v.ends ≡ slice_set w.ends k (Open_end y)
-  pub address : y.address ≡ x.address
-  pub file : y.file ≡ x.file
-  pub text : y.text ≡ x.text
-  pub mode : y.state.role.mode ≡ x.state.role.mode
-  pub side : y.state.role.side ≡ x.state.role.side
-  pub phase : y.state.position.phase ≡ x.state.position.phase
-  pub stored : y.stored ≡ x.stored
-  pub held_back : y.state.position.held_back ≡ x.state.position.held_back
-  pub last_sent : y.state.position.last_sent ≡ x.state.position.last_sent
-  pub refuses : y.refuses ≡ x.refuses
-  pub role : y.state.role ≡ x.state.role
-  pub last_sent_to : y.state.position.last_sent_to ≡ x.state.position.last_sent_to
-  pub retries : y.state.position.retries_left ≡ x.state.position.retries_left - 1
+  pub ends : v.ends ≡ slice_set w.ends k (Open_end (retried x))
 
 -- it does so at a timeout whose response is to send again
 pub resends : (w v : WorldState) (k : ℕ) (x : OpenEnd) (report : Report) →
     timeout_response x.state.position.retries_left x.state.position.phase ≡ Retransmit →
     outcome_of x.state.position.phase ≡ None → Turns w k x (timeout_turn x.state) (files_of x) report v →
     Resent w v k x
-resends w v k x report is still t = search rules
+resends w v k x report is still t =
+    let turn_is = ap (λ (r : Response). response_turn r x.state.position.last_sent_to x.state) is in
+    record {
+      sent =
+          ap (λ (u : WorldState). u.sent) t.is ∙ ap (λ (t : Turn). w.sent ++ replied x.address t.reply) turn_is;
+      ends =
+          ap (λ (u : WorldState). u.ends) t.is
+          ∙ (ap (λ (t : Turn). slice_set w.ends k (standing (end_after x t (files_of x)))) turn_is
+          ∙ ap (slice_set w.ends k) (stands_still (retried x) still));
+    }
 
 -- the timeout of the end at an index is its step
 pub timed_out : (w v : WorldState) (k : ℕ) (x : OpenEnd) (report : Report) → Refines true w →
     slice_get w.ends k ≡ Some (Open_end x) → WorldStep w (Timeout x.address.port) report v →
     Turns w k x (timeout_turn x.state) (files_of x) report v
 timed_out w v k x report ok there s =
-    let p = ports_of true w ok k (Open_end x) there in
+    let p = ok.ports k (Open_end x) there in
     let q = s.2.is in
     let same : s.0 ≡ k = omega (arith, p, q) in
     let end_is : s.1 ≡ Open_end x = same_Some s.1 (Open_end x) (sym s.2.there ∙ (ap (slice_get w.ends) same ∙ there)) in
@@ -130,7 +118,7 @@ retransmits left phase may some = search rules
 
 -- a datagram that an event added is the only one to be delivered
 pub ready_with : (w v : WorldState) (event : Event) (report : Report) (d : Datagram) → Refines true w →
-    WorldStep w event report v → v.sent ≡ w.sent ++ d ∷ [] → IsReady true v (length w.sent) d
+    WorldStep w event report v → v.sent ≡ w.sent ++ d ∷ [] → IsReady v (length w.sent) d
 ready_with w v event report d ok s sent = grind (arith, common_steps, step_keeps, slice_get-push_new)
 
 -- a number that is one more at most, no less and another is the next one

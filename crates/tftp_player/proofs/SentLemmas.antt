@@ -1,51 +1,25 @@
 -- Each end that was opened has sent a datagram. For `World::apply` and `draw`.
 use Rattle.tftp_player.proofs.Common.{common_steps, ◌≡◌, ℕ, ◌+◌, ◌<◌, ◌≤◌, suc, zero, List, [], ◌∷◌, length, sym, subst}
-use Rattle.tftp_player.proofs.Common.{ap, refl, arith, rules, slice_index_or, Some, None, ltb-true, Record, Turn, Files}
-use Rattle.tftp_player.proofs.Common.{Holding, Service, OpenEnd, Endpoint, records_from, WorldState, WorldEnd}
-use Rattle.tftp_player.proofs.Common.{ServiceStep, Delivery, OpeningStep, Stays, Turns, TimeoutStep, WorldStep, Event}
-use Rattle.tftp_player.proofs.Common.{Get, Put, Deliver, Timeout, RefuseStore, Stray, Report}
-use Rattle.std.proofs.Common.{◌%◌}
+use Rattle.tftp_player.proofs.Common.{ap, refl, arith, rules, slice_index_or, Some, None, ltb-true, Record}
+use Rattle.tftp_player.proofs.Common.{records_from, WorldState, WorldEnd, WorldStep, Event, Timeout, Report, ◌%◌, Lcg}
+use Rattle.tftp_player.proofs.Common.{drawn}
 use Rattle.std.proofs.lemmas.Bool.{eq-eqb, ne_eqb}
-use Rattle.rand_pcg.specs.Lcg.{Lcg}
-use Rattle.tftp_player.specs.Draw.{drawn, words_drawn}
+use Rattle.tftp_player.specs.Draw.{words_drawn}
 use Rattle.tftp_player.specs.PlayedWorld.{HasSentEach}
+use Rattle.tftp_player.proofs.Changes.{Changes, IsTurn, Stayed, Answered, Opened, Turned, Armed, changes}
 
--- an end opened, and sent
-opens : (old new : WorldState) (x : OpenEnd) (report : Report) → OpeningStep old x report new → HasSentEach old →
+each_sent : (old new : WorldState) (report : Report) → Changes (IsTurn old) old report new → HasSentEach old →
     HasSentEach new
-opens old new x report o h = grind (arith, common_steps)
-
--- nothing happened
-stays : (old new : WorldState) (report : Report) → Stays old report new → HasSentEach old → HasSentEach new
-stays old new report s h = subst HasSentEach (sym s.is) h
-
--- an end made a turn
-turns : (old new : WorldState) (k : ℕ) (x : OpenEnd) (turn : Turn) (held : Files (List ℕ) Holding) (report : Report) →
-    Turns old k x turn held report new → HasSentEach old → HasSentEach new
-turns old new k x turn held report t h = grind (arith, common_steps)
-
--- the request port was asked
-serves : (service : Service) (old new : WorldState) (from : Endpoint) (bytes : List ℕ) (report : Report) →
-    ServiceStep service old from bytes report new → HasSentEach old → HasSentEach new
-serves service old new from bytes report s h = grind (arith, common_steps)
-
-arrives : (old new : WorldState) (from to : Endpoint) (bytes : List ℕ) (report : Report) →
-    Delivery old from to bytes report new → HasSentEach old → HasSentEach new
-arrives old new from to bytes report h6 h = grind (arith, common_steps, serves, turns, stays)
-
-times_out : (old new : WorldState) (k : ℕ) (x : WorldEnd) (report : Report) → TimeoutStep old k x report new →
-    HasSentEach old → HasSentEach new
-times_out old new k x report h5 h = search (rules, stays, turns)
+each_sent old new report (Stayed s) h = subst HasSentEach (sym s.is) h
+each_sent old new report (Answered d from reports is) h = grind (arith, common_steps)
+each_sent old new report (Opened x o s) h = grind (arith, common_steps)
+each_sent old new report (Turned k x turn held there t turns) h = grind (arith, common_steps)
+each_sent old new report (Armed k x there reports is) h = search rules
 
 -- in a step each end that opens sends a datagram
 pub sends_each : (old new : WorldState) (event : Event) (report : Report) → WorldStep old event report new →
     HasSentEach old → HasSentEach new
-sends_each old new (Get name mode asked) report s h = opens old new _ report s.2 h
-sends_each old new (Put name mode asked bytes) report s h = opens old new _ report s.2 h
-sends_each old new (Deliver i) report s h = arrives old new _ _ _ report s.2 h
-sends_each old new (Timeout port) report s h = times_out old new _ s.1 report s.3 h
-sends_each old new (RefuseStore port) report s h = search rules
-sends_each old new (Stray from to bytes) report s h = arrives old new _ _ _ report s.1 h
+sends_each old new event report s h = each_sent old new report (changes old new event report s) h
 
 -- the record at an index has the port of the end there
 pub record_port : (port : ℕ) (ends : List WorldEnd) (k : ℕ) (d : ℕ × Record) → k < length ends →

@@ -6,13 +6,11 @@ use Rattle.tftp_player.proofs.Common.{EndState, is_client, record_of, terms_of, 
 use Rattle.tftp_player.proofs.Common.{reply_bytes, files_in, drafting_sink, memory_meaning, StepIn, Stored, Drafted}
 use Rattle.tftp_player.proofs.Common.{Endpoint, OpenEnd, files_of, end_after, EndTakes, served_end, answer_room}
 use Rattle.tftp_player.proofs.Common.{PlayedServer, standing, file_at, has_committed, in_the_way, EndStep, FilesAfter}
-use Rattle.tftp_player.proofs.Common.{Effect, WorldFault, ServerEnd}
+use Rattle.tftp_player.proofs.Common.{Effect, WorldFault, ServerEnd, KeepsStore, stands, CommitsLast, ServerEndKept}
 use Rattle.std.proofs.Common.{IfOk, OnErr}
-use Rattle.tftp_server.specs.Draft.{KeepsStore}
 use Rattle.tftp_store.specs.Memory.{with_armed}
 use Rattle.tftp_server.specs.State.{is_closed}
-use Rattle.tftp_player.specs.Played.{stands}
-use Rattle.tftp_player.specs.ServerEnd.{CommitsLast, ServerEndKept, ServerEndTakes}
+use Rattle.tftp_player.specs.ServerEnd.{ServerEndTakes}
 use Rattle.tftp_player.specs.declared.played_end.PlayedEnd.TheVariants.{Server}
 use Rattle.tftp_player.proofs.DraftLemmas.{ServerEndLeaves, served_leaves, with_files}
 use Rattle.tftp_player.proofs.PlayerLemmas.{open_takes}

@@ -8,28 +8,24 @@ use Rattle.tftp_player.proofs.Common.{serving_read, Decodes, memory_meaning, Sto
 use Rattle.tftp_player.proofs.Common.{OpenEnd, agreed_size, WorldState, StoredFile, file_at, in_the_way, sending_end}
 use Rattle.tftp_player.proofs.Common.{receiving_end, Ask, Service, Silent, Refused, Sends, Takes, by_file}
 use Rattle.tftp_player.proofs.Common.{open_transfers, opened_of, served, service, PlayedServer, ServerEnd}
+use Rattle.tftp_player.proofs.Common.{spelled_has_no_fault, FileTooLarge, block_length, at, is_taken, accept_reply}
+use Rattle.tftp_player.proofs.Common.{by_draft, by_length, begun_of, ServerTransfer, AnswersAs, released_end, Answer}
 use Rattle.std.proofs.Common.{IfErr}
 use Rattle.std.proofs.lemmas.List.{take_min, drop_min}
-use Rattle.tftp_wire.proofs.SpellingLemmas.{spelled_has_no_fault}
 use Rattle.tftp_negotiate.specs.declared.known.Kind.TheVariants as kinds
 use Rattle.tftp_file.specs.Source.{Fills, Moved}
 use Rattle.tftp_file.specs.declared.fault.FileFault.{FileFault}
 use Rattle.tftp_file.specs.declared.fault.FileFault.TheVariants as file_faults
 use Rattle.tftp_file.specs.declared.fault.StoreFault.TheVariants as store_faults
-use Rattle.tftp_ends.specs.declared.error_reply.ErrorReply.TheVariants.{FileTooLarge}
 use Rattle.tftp_ends.specs.Opening.{ServesRead}
-use Rattle.tftp_ends.specs.Step.{block_length, result_count_is}
+use Rattle.tftp_ends.specs.Step.{result_count_is}
 use Rattle.tftp_server.specs.Request.{Came, Nothing, Error_reply, A_transfer, Goes, Left, Sent, Taken, left_by}
 use Rattle.tftp_server.specs.Request.{opened_length}
-use Rattle.tftp_server.specs.State.{at}
 use Rattle.tftp_store.specs.Memory.{MayRefuseBegin, MayRefuseOpen}
-use Rattle.tftp_store.specs.Store.{Opens, Begins, is_taken, new_draft}
+use Rattle.tftp_store.specs.Store.{Opens, Begins, new_draft}
 use Rattle.tftp_store.specs.declared.store.Opening.{Opening}
-use Rattle.tftp_server.specs.Port.{accept_reply, asks, by_draft, by_length}
-use Rattle.tftp_player.specs.Requests.{begun_of}
-use Rattle.tftp_player.specs.ServerEnd.{ServerTransfer}
-use Rattle.tftp_player.specs.Answer.{AnswersAs, IsServerOf, released_end}
-use Rattle.tftp_player.specs.declared.ends.asking.Answer.{Answer}
+use Rattle.tftp_server.specs.Port.{asks}
+use Rattle.tftp_player.specs.Answer.{IsServerOf}
 use Rattle.tftp_player.proofs.WorldKeeps.{answered_values}
 use Rattle.tftp_player.proofs.Measured.{measured_whole}
 

@@ -4,9 +4,8 @@ use Rattle.tftp_player.proofs.Common.{inl, inr, rules, is_some, slice_get, Conta
 use Rattle.tftp_player.proofs.Common.{Outcome, Phase, is_sender, is_client, is_complete, outcome_of, OpenEnd, two_hosts}
 use Rattle.tftp_player.proofs.Common.{Message, Rule, EndView, IsShownWithin, WorldState, WorldEnd, Open_end, Closed_end}
 use Rattle.tftp_player.proofs.Common.{end_address, datagram, closed_end, by_outcome, standing, view_of_end, file_at}
-use Rattle.tftp_player.proofs.Common.{HasAsker, IsKeptIn}
-use Rattle.tftp_rules.specs.OpenEnds.{with_phase, has_failed, open_view}
-use Rattle.tftp_rules.specs.EndKept.{EndKept}
+use Rattle.tftp_player.proofs.Common.{HasAsker, IsKeptIn, with_phase, open_view, EndKept}
+use Rattle.tftp_rules.specs.OpenEnds.{has_failed}
 use Rattle.tftp_rules.proofs.Refines.{shown_forgets}
 use Rattle.tftp_rules.specs.Shows.{IsInService}
 use Rattle.tftp_player.specs.World.{end_request}

@@ -1,8 +1,7 @@
 -- What an end does at the datagram that it waits for. For eleven other files.
 use Rattle.tftp_player.proofs.Common.{◌≡◌, ℕ, ◌+◌, ◌<◌, ◌≤◌, true, false, List, length, Some, None, rules, nat_lt, Mode}
 use Rattle.tftp_player.proofs.Common.{Packet, Respond, Send, Store, Complete, Phase, Terms, EndState, terms_of}
-use Rattle.tftp_player.proofs.Common.{is_wrong_peer, packet_action, datagram_action, next_action, Endpoint}
-use Rattle.std.proofs.Common.{◌/◌}
+use Rattle.tftp_player.proofs.Common.{is_wrong_peer, packet_action, datagram_action, next_action, Endpoint, ◌/◌}
 use Rattle.tftp_ends.specs.Receiver.{data_action}
 use Rattle.tftp_ends.specs.Sender.{acked_action}
 use Rattle.tftp_ends.specs.Text.{is_readable}

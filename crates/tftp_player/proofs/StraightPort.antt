@@ -1,23 +1,21 @@
 -- The beginning of a run without loss: a client asks, and the server's port accepts its request. For six other files.
 use Rattle.tftp_player.proofs.Common.{common_steps, ◌≡◌, ℕ, ◌+◌, ◌*◌, ◌<◌, Bool, true, false, List, [], ◌∷◌, ◌++◌}
 use Rattle.tftp_player.proofs.Common.{length, Option, Some, None, Result, Ok, refl, sym, ap, ◌∙◌, subst, arith, rules}
-use Rattle.tftp_player.proofs.Common.{if◌then◌else◌, slice_get, same_Some, Mode, RawOption, Packet, Read, Write, size}
-use Rattle.tftp_player.proofs.Common.{answer, Known, Refusal, Ask, Service, Sends, Takes, by_file, request_port}
-use Rattle.tftp_player.proofs.Common.{Endpoint, OpenEnd, IsRepeated, open_transfers, opened_of, served, service}
-use Rattle.tftp_player.proofs.Common.{IsAccepted, WorldState, datagram, opened_in, WorldEnd, Open_end, end_address}
-use Rattle.tftp_player.proofs.Common.{HasPorts, Refines, MayHappen, ServiceStep, Delivery, OpeningStep, WorldStep}
-use Rattle.tftp_player.proofs.Common.{Datagram, Event, Deliver, Report, slice_get-push_new}
+use Rattle.tftp_player.proofs.Common.{if◌then◌else◌, slice_get, same_Some, Mode, RawOption, Packet, size, answer, Known}
+use Rattle.tftp_player.proofs.Common.{Refusal, Ask, Service, Sends, Takes, by_file, request_port, Endpoint, OpenEnd}
+use Rattle.tftp_player.proofs.Common.{IsRepeated, open_transfers, opened_of, served, service, IsAccepted, WorldState}
+use Rattle.tftp_player.proofs.Common.{datagram, opened_in, WorldEnd, Open_end, end_address, HasPorts, Refines}
+use Rattle.tftp_player.proofs.Common.{ServiceStep, Delivery, OpeningStep, WorldStep, Datagram, Event, Deliver, Report}
+use Rattle.tftp_player.proofs.Common.{slice_get-push_new, PathFault, by_name, by_options, by_packet}
 use Rattle.std.proofs.Common.{◌↔◌, IsTrue}
 use Rattle.tftp_negotiate.specs.declared.known.Kind.TheVariants as kinds
-use Rattle.tftp_file.specs.declared.path.PathFault.{PathFault}
-use Rattle.tftp_server.specs.Port.{by_name, by_options, by_packet}
 use Rattle.tftp_player.proofs.ServerLemmas.{says_one}
 use Rattle.tftp_player.proofs.WorldRuns.{step_keeps}
 
 -- ---- a client asked
 -- the client is there and has sent its request
-pub record HasAsked (strangers : Bool) (old w : WorldState) (c : OpenEnd) : Type 0 where
-  pub ok : Refines strangers w
+pub record HasAsked (old w : WorldState) (c : OpenEnd) : Type 0 where
+  pub ok : Refines true w
   pub sent : w.sent ≡ old.sent ++ datagram c.address c.state.position.last_sent_to c.state.position.last_sent ∷ []
   pub newest : slice_get w.sent (length old.sent)
       ≡ Some (datagram c.address c.state.position.last_sent_to c.state.position.last_sent)
@@ -27,11 +25,9 @@ pub record HasAsked (strangers : Bool) (old w : WorldState) (c : OpenEnd) : Type
   pub files : w.files ≡ old.files
 
 -- a client that opens has asked
-pub has_asked : (strangers : Bool) (old w : WorldState) (c : OpenEnd) (event : Event) (report : Report) →
-    MayHappen strangers event → Refines strangers old → WorldStep old event report w →
-    w ≡ opened_in old c → HasAsked strangers old w c
-has_asked strangers old w c event report may ok s is =
-    grind (arith, common_steps, step_keeps, slice_get-push_new)
+pub has_asked : (old w : WorldState) (c : OpenEnd) (event : Event) (report : Report) → Refines true old →
+    WorldStep old event report w → w ≡ opened_in old c → HasAsked old w c
+has_asked old w c event report ok s is = grind (arith, common_steps, step_keeps, slice_get-push_new)
 
 -- ---- the port was asked
 -- two answers to whether a request is repeated are one

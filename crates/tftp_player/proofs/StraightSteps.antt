@@ -5,39 +5,31 @@ use Rattle.tftp_player.proofs.Common.{Result, Ok, Err, refl, sym, ap, ◌∙◌,
 use Rattle.tftp_player.proofs.Common.{if◌then◌else◌, nat_lt, slice_get, slice_set, true≢false, same_Some, Packet, Data}
 use Rattle.tftp_player.proofs.Common.{Spells, decoded_is, memory_source, block, wire_text, Holding, StoreFault, Files}
 use Rattle.tftp_player.proofs.Common.{Source, Sink, Action, Respond, Send, Store, Accept, Complete, ErrorReply}
-use Rattle.tftp_player.proofs.Common.{DiskFull, Fresh, Phase, Sending, Receiving, Dallying, Terms, EndState}
-use Rattle.tftp_player.proofs.Common.{is_progress, is_sender, is_client, outcome_of, datagram_action, Turn, Done, Acts}
-use Rattle.tftp_player.proofs.Common.{Appended, GoesOn, response_turn, sent_turn, refused_turn, committed_turn}
-use Rattle.tftp_player.proofs.Common.{commit_reply, holding, ack_bytes, data_bytes, after_turn, Endpoint, OpenEnd}
-use Rattle.tftp_player.proofs.Common.{holding_of, files_of, end_after, HeldBackFits, TookAll, WorldState, file_at}
-use Rattle.tftp_player.proofs.Common.{in_the_way, is_closed, datagram, replied, standing, WorldEnd, Open_end}
-use Rattle.tftp_player.proofs.Common.{Closed_end, end_address, HasPorts, Refines, IsComplete, may_refuse_commit}
-use Rattle.tftp_player.proofs.Common.{EndStep, OnDatagram, Delivery, At_request_port, At_open_end, At_closed_end}
-use Rattle.tftp_player.proofs.Common.{At_nobody, WorldStep, world_sink, Datagram, Deliver, Report}
+use Rattle.tftp_player.proofs.Common.{DiskFull, Fresh, Phase, Sending, Receiving, Dallying, Terms, EndState, is_sender}
+use Rattle.tftp_player.proofs.Common.{is_client, outcome_of, datagram_action, Turn, Done, Acts, Appended, GoesOn}
+use Rattle.tftp_player.proofs.Common.{response_turn, sent_turn, refused_turn, committed_turn, commit_reply, holding}
+use Rattle.tftp_player.proofs.Common.{ack_bytes, data_bytes, after_turn, Endpoint, OpenEnd, holding_of, files_of}
+use Rattle.tftp_player.proofs.Common.{end_after, HeldBackFits, TookAll, WorldState, file_at, in_the_way, is_closed}
+use Rattle.tftp_player.proofs.Common.{datagram, replied, standing, WorldEnd, Open_end, Closed_end, end_address}
+use Rattle.tftp_player.proofs.Common.{HasPorts, IsComplete, may_refuse_commit, OnDatagram, Delivery, At_request_port}
+use Rattle.tftp_player.proofs.Common.{At_open_end, At_closed_end, At_nobody, WorldStep, world_sink, Datagram, Deliver}
+use Rattle.tftp_player.proofs.Common.{Report, Decoded, in_state, Kept_all, kept_by, closed_at, StepAt}
 use Rattle.tftp_file.specs.declared.fault.StoreFault.TheVariants as faults
 use Rattle.tftp_ends.specs.declared.outcome.Outcome.TheVariants as outcomes
 use Rattle.tftp_ends.specs.Step.{Stores, StoresIn}
-use Rattle.tftp_ends.specs.Text.{Decoded}
-use Rattle.tftp_rules.specs.OpenEnds.{with_files, in_state}
-use Rattle.tftp_rules.proofs.SinkMoves.{Took, All_of_it, Some_of_it, took, Kept_all, For_good, Not_yet, kept_by}
-use Rattle.tftp_rules.proofs.SinkMoves.{stores_in, goes_on_with, held_fits}
+use Rattle.tftp_rules.specs.OpenEnds.{with_files}
+use Rattle.tftp_rules.proofs.SinkMoves.{Took, All_of_it, Some_of_it, took, For_good, Not_yet, stores_in, goes_on_with}
+use Rattle.tftp_rules.proofs.SinkMoves.{held_fits}
 use Rattle.tftp_rules.proofs.SourceMoves.{BlockSent, sends_from, block_sent}
 use Rattle.tftp_rules.proofs.SaidLemmas.{data_of}
 use Rattle.tftp_rules.proofs.StoredTexts.{stored_more}
-use Rattle.tftp_player.specs.World.{closed_at}
-
--- the end at index k of a world has port 1024 + k
-pub ports_of : (strangers : Bool) (w : WorldState) → Refines strangers w → HasPorts w
-ports_of strangers w ok = ok.ports
 
 -- a delivery at an open end is this turn of it
 pub record Handles (w : WorldState) (k : ℕ) (x : OpenEnd) (from : Endpoint) (bytes : List ℕ) (report : Report)
     (v : WorldState) : Type 0 where
   pub turn : Turn
   pub held : Files (List ℕ) Holding
-  pub steps :
-      EndStep (is_client x.state.role.side) (in_the_way w.overwrite (file_at w.files x.path)) from bytes x.state
-      (files_of x) turn held
+  pub steps : StepAt w x from bytes turn held
   pub sent : v.sent ≡ w.sent ++ replied x.address turn.reply
   pub ends : v.ends ≡ slice_set w.ends k (standing (end_after x turn held))
   pub closed : report.closed ≡ closed_at x.address (outcome_of turn.position.phase)
@@ -101,7 +93,7 @@ piece_taken :
     (answer ≡ Ok tt) × (after.refuses ≡ false)
 piece_taken before after h2 answer refuses_commit unarmed h memory = search rules
 
-module _ (w v : WorldState) (k : ℕ) (x : OpenEnd) (from : Endpoint) (bytes : List ℕ) (report : Report)
+module _ {w v : WorldState} {k : ℕ} {x : OpenEnd} {from : Endpoint} {bytes : List ℕ} {report : Report}
     (h : Handles w k x from bytes report v) where
   abbrev refuses_commit : Holding → StoreFault → Type 0
   refuses_commit = may_refuse_commit (is_client x.state.role.side) (in_the_way w.overwrite (file_at w.files x.path))
@@ -110,12 +102,27 @@ module _ (w v : WorldState) (k : ℕ) (x : OpenEnd) (from : Endpoint) (bytes : L
   Acts_at action =
       Acts memory_source (world_sink refuses_commit) action from bytes x.state (files_of x) h.turn h.held
 
-  acts_as : (packet : Packet) (action : Action) → Spells packet bytes →
+  -- what is decoded of the datagram
+  pub decoded_as : (packet : Packet) (action : Action) → Spells packet bytes →
+      datagram_action x.state from bytes (Some packet) ≡ action →
+      datagram_action x.state from bytes h.steps.decoded ≡ action
+  decoded_as packet action spelled is =
+      ap (datagram_action x.state from bytes) (decoded_is bytes packet h.steps.decoded spelled h.steps.says) ∙ is
+
+  pub acts_as : (packet : Packet) (action : Action) → Spells packet bytes →
       datagram_action x.state from bytes (Some packet) ≡ action → Acts_at action
-  acts_as packet action spelled is =
-      subst Acts_at
-      (ap (datagram_action x.state from bytes) (decoded_is bytes packet h.steps.decoded spelled h.steps.says) ∙ is)
-      h.steps.acts
+  acts_as packet action spelled is = subst Acts_at (decoded_as packet action spelled is) h.steps.acts
+
+  -- what was sent, and the ends, by the turn
+  pub sent_by : (turn : Turn) → h.turn ≡ turn → v.sent ≡ w.sent ++ replied x.address turn.reply
+  sent_by turn is = h.sent ∙ ap (λ (t : Turn). w.sent ++ replied x.address t.reply) is
+
+  pub ends_by : (turn : Turn) (held : Files (List ℕ) Holding) → h.turn ≡ turn → h.held ≡ held →
+      v.ends ≡ slice_set w.ends k (standing (end_after x turn held))
+  ends_by turn held is same =
+      h.ends
+      ∙ (ap (λ (t : Turn). slice_set w.ends k (standing (end_after x t h.held))) is
+      ∙ ap (λ (fs : Files (List ℕ) Holding). slice_set w.ends k (standing (end_after x turn fs))) same)
 
   -- the end became y, and sent this
   pub record Becomes (y : OpenEnd) (said : List Datagram) : Type 0 where
@@ -125,19 +132,20 @@ module _ (w v : WorldState) (k : ℕ) (x : OpenEnd) (from : Endpoint) (bytes : L
     pub file : y.file ≡ x.file
     pub mode : y.state.role.mode ≡ x.state.role.mode
     pub side : y.state.role.side ≡ x.state.role.side
-    pub role : y.state.role ≡ x.state.role
-    -- progress restores its retries
-    pub retries : y.state.position.retries_left
-        ≡ (if is_progress x.state.position.phase y.state.position.phase then x.state.role.retries
-        else x.state.position.retries_left)
-    -- what it sent is its newest datagram
-    pub newest : said ≡ datagram x.address y.state.position.last_sent_to y.state.position.last_sent ∷ []
+
+  turned : (turn : Turn) (held : Files (List ℕ) Holding) → h.turn ≡ turn → h.held ≡ held →
+      standing (end_after x turn held) ≡ Open_end (end_after x turn held) →
+      Becomes (end_after x turn held) (replied x.address turn.reply)
+  turned turn held is same stays = record {
+    sent = sent_by turn is;
+    ends = ends_by turn held is same ∙ ap (slice_set w.ends k) stays;
+    address = refl;
+    file = refl;
+    mode = refl;
+    side = refl;
+  }
 
   -- ---- a sender sends
-  -- the turn that sends a block
-  abbrev pub data_turn_at : Terms → ℕ → List ℕ → Turn
-  data_turn_at terms n piece = sent_turn (Sending terms (n + 1)) from (data_bytes (n + 1) piece) x.state
-
   -- a sender that is to send its next block does
   pub handles_send : (packet : Packet) (terms : Terms) (n : ℕ) (text : List ℕ) → Spells packet bytes →
       datagram_action x.state from bytes (Some packet) ≡ Send terms (n + 1) →
@@ -154,44 +162,19 @@ module _ (w v : WorldState) (k : ℕ) (x : OpenEnd) (from : Endpoint) (bytes : L
         | inl sent ↦ sent
         | inr failed ↦ absurd failed.may
       ] in
-      let turn = data_turn_at terms n (block text terms.size (n + 1)) in
-      let y = end_after x turn (Source f.0) in (
-        y,
-        refl,
-        record {
-          sent = h.sent ∙ ap (λ (t : Turn). w.sent ++ replied x.address t.reply) b.turn_is;
-          ends = h.ends
-              ∙ (ap (λ (t : Turn). slice_set w.ends k (standing (end_after x t h.held))) b.turn_is
-              ∙ ap (λ (fs : Files (List ℕ) Holding). slice_set w.ends k (standing (end_after x turn fs))) f.1);
-          address = refl;
-          file = refl;
-          mode = refl;
-          side = refl;
-          role = refl;
-          retries = refl;
-          newest = refl;
-        },
-      )
+      let turn =
+      sent_turn (Sending terms (n + 1)) from (data_bytes (n + 1) (block text terms.size (n + 1))) x.state in
+      (end_after x turn (Source f.0), refl, turned turn (Source f.0) b.turn_is f.1 refl)
 
-  -- ---- a sender whose last block is acknowledged is complete
   -- a sender whose last block is acknowledged completes
   pub handles_last : (packet : Packet) → Spells packet bytes →
       datagram_action x.state from bytes (Some packet) ≡ Respond Complete →
       (y : WorldEnd) × IsComplete y × (v.sent ≡ w.sent ++ []) × (v.ends ≡ slice_set w.ends k y)
   handles_last packet spelled is =
       let a = acts_as packet (Respond Complete) spelled is in
-      let turn = response_turn Complete from x.state in (
-        standing (in_state (after_turn x.state turn) x),
-        refl,
-        h.sent ∙ ap (λ (t : Turn). w.sent ++ replied x.address t.reply) a.0,
-        h.ends
-            ∙ (ap (λ (t : Turn). slice_set w.ends k (standing (end_after x t h.held))) a.0
-            ∙ (ap (λ (fs : Files (List ℕ) Holding). slice_set w.ends k (standing (end_after x turn fs))) a.1
-            ∙ ap (λ (z : OpenEnd). slice_set w.ends k (standing z))
-            (same_with (is_sender x.state.role.side) (in_state (after_turn x.state turn) x)))),
-      )
+      let turn = response_turn Complete from x.state in
+      (standing (end_after x turn (files_of x)), refl, sent_by turn a.0, ends_by turn (files_of x) a.0 a.1)
 
-  -- ---- a reader accepts an OACK
   -- a reader accepts an OACK
   pub handles_oack : (packet : Packet) (terms : Terms) → Spells packet bytes →
       datagram_action x.state from bytes (Some packet) ≡ Respond (Accept terms) →
@@ -202,27 +185,13 @@ module _ (w v : WorldState) (k : ℕ) (x : OpenEnd) (from : Endpoint) (bytes : L
   handles_oack packet terms spelled is =
       let a = acts_as packet (Respond (Accept terms)) spelled is in
       let turn = response_turn (Accept terms) from x.state in
-      let y = in_state (after_turn x.state turn) x in (
-        y,
+      let same = same_with (is_sender x.state.role.side) (in_state (after_turn x.state turn) x) in (
+        end_after x turn (files_of x),
         refl,
+        ap (λ (z : OpenEnd). z.stored) same,
         refl,
-        refl,
-        record {
-          sent = h.sent ∙ ap (λ (t : Turn). w.sent ++ replied x.address t.reply) a.0;
-          ends = h.ends
-              ∙ (ap (λ (t : Turn). slice_set w.ends k (standing (end_after x t h.held))) a.0
-              ∙ (ap (λ (fs : Files (List ℕ) Holding). slice_set w.ends k (standing (end_after x turn fs))) a.1
-              ∙ ap (λ (z : OpenEnd). slice_set w.ends k (standing z))
-              (same_with (is_sender x.state.role.side) (in_state (after_turn x.state turn) x))));
-          address = refl;
-          file = refl;
-          mode = refl;
-          side = refl;
-          role = refl;
-          retries = refl;
-          newest = refl;
-        },
-        refl,
+        turned turn (files_of x) a.0 a.1 refl,
+        ap (λ (z : OpenEnd). z.refuses) same,
       )
 
   -- ---- a receiver stores a block that its store accepts
@@ -301,22 +270,7 @@ module _ (w v : WorldState) (k : ℕ) (x : OpenEnd) (from : Endpoint) (bytes : L
             (goes_on_with x.state.role.mode x.state.position.held_back piece bytes_now after holds d));
         holds = held_fits x.state.role.mode x.state.position.held_back piece bytes_now after holds d;
         armed = sym (ap is_armed held);
-        becomes = record {
-          sent = h.sent ∙ ap (λ (t : Turn). w.sent ++ replied x.address t.reply) turns;
-          ends = h.ends
-              ∙ (ap (λ (t : Turn). slice_set w.ends k (standing (end_after x t h.held))) turns
-              ∙ (ap
-              (λ (fs : Files (List ℕ) Holding).
-              slice_set w.ends k (standing (end_after x (stored_turn last after) fs))) held
-              ∙ ap (slice_set w.ends k) (still_open last sink after)));
-          address = refl;
-          file = refl;
-          mode = refl;
-          side = refl;
-          role = refl;
-          retries = refl;
-          newest = refl;
-        };
+        becomes = turned (stored_turn last after) (Sink sink) turns held (still_open last sink after);
       },
     )
 

@@ -3,9 +3,8 @@ use Rattle.tftp_player.proofs.Common.{◌≡◌, ℕ, Bool, true, List, Option, 
 use Rattle.tftp_player.proofs.Common.{StoreFault, Files, Holding, Action, Respond, Send, Store, Response, Accept, Terms}
 use Rattle.tftp_player.proofs.Common.{EndState, terms_of, Position, datagram_action, Turn, DatagramStep, response_turn}
 use Rattle.tftp_player.proofs.Common.{timeout_turn, Endpoint, world_sink, MayTake, datagram_takes, TurnBy, Responds}
-use Rattle.tftp_player.proofs.Common.{Sends_data, Has_stored, acts_by}
-use Rattle.tftp_ends.specs.declared.action.Response.TheVariants.{Refuse}
-use Rattle.tftp_rules.proofs.TurnCases.{Cannot_read, Has_all, Cannot_append, Cannot_commit}
+use Rattle.tftp_player.proofs.Common.{acts_by, OpenEnd, WorldState, Refuse, files_of}
+use Rattle.tftp_player.proofs.Changes.{IsTurn, At_timeout, At_datagram}
 
 module _ (agreed : Terms) where
   -- the response and the action name no other terms
@@ -38,12 +37,7 @@ module _ (agreed : Terms) where
   turn_has : (from : Endpoint) (e : EndState) (action : Action) (turn : Turn) → Names action → Has e.position →
       TurnBy from e action turn → Has turn.position
   turn_has from e action turn s h (Responds response) = response_has response from e s h
-  turn_has from e action turn s h (Sends_data terms n piece) = ap Some s
-  turn_has from e action turn s h (Cannot_read terms n) = ap Some s
-  turn_has from e action turn s h (Has_stored terms n after positive) = ap Some s
-  turn_has from e action turn s h (Has_all terms n after) = ap Some s
-  turn_has from e action turn s h (Cannot_append terms n) = ap Some s
-  turn_has from e action turn s h (Cannot_commit terms n after fault) = ap Some s
+  turn_has from e action turn s h t = ap Some s
 
   module _ (refuses_commit : Holding → StoreFault → Type 0) (from : Endpoint) (bytes : List ℕ) (e : EndState) where
     pub step_has : (files files' : Files (List ℕ) Holding) (turn : Turn) → Has e.position →
@@ -53,6 +47,13 @@ module _ (agreed : Terms) where
         turn_has from e action turn
         (names (terms_of e.position.phase) from d.decoded _ action h (datagram_takes e from bytes d.decoded)) h
         (acts_by memory_source (world_sink refuses_commit) from bytes e action files files' turn d.acts)
+
+-- so does each turn of an end of a world
+pub turn_terms : (w : WorldState) (x : OpenEnd) (turn : Turn) (held : Files (List ℕ) Holding) → IsTurn w x turn held →
+    (agreed : Terms) → terms_of x.state.position.phase ≡ Some agreed → terms_of turn.position.phase ≡ Some agreed
+turn_terms w x turn held At_timeout agreed h = timeout_has agreed x.state h
+turn_terms w x turn held (At_datagram from bytes t files a d) agreed h =
+    step_has agreed _ from bytes x.state (files_of x) files t h d
 
 -- the peer stays known
 pub still_known : (old new : Option Terms) → ((agreed : Terms) → old ≡ Some agreed → new ≡ Some agreed) →

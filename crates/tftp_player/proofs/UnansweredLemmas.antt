@@ -2,7 +2,7 @@
 use Rattle.tftp_player.proofs.Common.{◌≡◌, ℕ, zero, suc, Bool, false, List, [], ◌∷◌, map, Option, Some, None, refl, sym}
 use Rattle.tftp_player.proofs.Common.{◌∙◌, subst, inl, inr, rules, option_map, slice_get, true≢false, same_Some, Packet}
 use Rattle.tftp_player.proofs.Common.{Endpoint, EndView, IsRepeated, Repeats, AnyRepeats, WorldEnd, view_of_end}
-use Rattle.std.proofs.lemmas.Option.{slice_get-map}
+use Rattle.tftp_player.proofs.Common.{slice_get-map}
 use Rattle.tftp_rules.specs.Shows.{IsAnswering, NoneAnswers}
 
 -- an end at an index is one of them

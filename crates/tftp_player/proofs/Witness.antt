@@ -7,11 +7,11 @@ use Rattle.tftp_player.proofs.Common.{Config, request_port, OpenEnd, MayGet, May
 use Rattle.tftp_player.proofs.Common.{sending_end, receiving_end, IsRepeated, service, AllTaken, IsAccepted, read_adds}
 use Rattle.tftp_player.proofs.Common.{write_adds, WorldState, WorldEnd, StoredFile, datagram, end_address, end_file}
 use Rattle.tftp_player.proofs.Common.{end_record, end_stored, new_world, opened_in, sent_report, HasPeer, IsComplete}
-use Rattle.tftp_player.proofs.Common.{ServiceStep, At_request_port, WorldStep, Event, Get, Put, Deliver}
+use Rattle.tftp_player.proofs.Common.{ServiceStep, At_request_port, WorldStep, Event, Get, Put, Deliver, Transfers}
+use Rattle.tftp_player.proofs.Common.{RunsStraight, SomeReadIsStraight, SomeWriteIsStraight, TakesAnswer, IsReceiver}
+use Rattle.tftp_player.proofs.Common.{IsReached, PlaysAll}
 use Rattle.tftp_negotiate.specs.declared.known.Kind.TheVariants.{Read, Write}
-use Rattle.tftp_player.specs.Completing.{IsTransferred, Transfers}
-use Rattle.tftp_player.specs.Straight.{RunsStraight, SomeReadIsStraight, SomeWriteIsStraight, TakesAnswer}
-use Rattle.tftp_player.specs.WorldSafety.{IsReceiver}
+use Rattle.tftp_player.specs.Completing.{IsTransferred}
 use Rattle.tftp_player.proofs.WorldRuns.{new_ok}
 use Rattle.tftp_player.proofs.SampleDeliveries.{IsSpelled, spells, reports, world_at, AllDelivered, settles}
 use Rattle.tftp_player.proofs.SampleDeliveries.{count_reports, deliveries, plays}
@@ -102,6 +102,17 @@ pub record Runs (kind : Kind) (s : Sample) : Type 0 where
 pub asks : (kind : Kind) (s : Sample) → MayOpen kind s →
     WorldStep (new_world_for kind s) (event_for kind s) (sent_report (new_world_for kind s)) (asked_world kind s)
 asks kind s may = search rules
+
+-- so events lead to what comes after
+pub reached_by : (kind : Kind) (s : Sample) → MayOpen kind s → (events : List Event) (w : WorldState) →
+    PlaysAll (asked_world kind s) events w → IsReached w
+reached_by kind s may events w then_on = record {
+  files = files_for kind s;
+  config = config;
+  events = event_for kind s ∷ events;
+  max_block = (omega arith, omega arith);
+  plays = (asked_world kind s, sent_report (new_world_for kind s), asks kind s may, then_on);
+}
 
 begins : (kind : Kind) (s : Sample) →
     ServiceStep (service_for kind s) (asked_world kind s) (client_for kind s).address (request_for kind s)

@@ -1,16 +1,15 @@
 -- Sample transfers that complete without loss: reads and writes, with and without options. For
 -- `a_straight_run_completes`, `some_worlds_transfer` and four other files.
-use Rattle.tftp_player.proofs.Common.{ℕ, List, [], ◌∷◌, refl, arith, rules, Octet, Blksize, Get, Put}
-use Rattle.std.specs.Fmt.{digits}
-use Rattle.tftp_wire.specs.declared.mode.Mode.TheVariants.{Netascii}
-use Rattle.tftp_negotiate.specs.Agreement.{taken_option}
-use Rattle.tftp_negotiate.specs.Answer.{answered_option}
-use Rattle.tftp_negotiate.specs.Negotiation.{occurrences_of}
-use Rattle.tftp_negotiate.specs.Options.{name_of, number_of}
+use Rattle.tftp_player.proofs.Common.{ℕ, List, [], ◌∷◌, refl, arith, rules, Octet, Blksize, Get, Put, Netascii}
+use Rattle.tftp_player.proofs.Common.{Transfers, SomeReadIsStraight, SomeWriteIsStraight}
+use Rattle.tftp_negotiate.specs.Options.{number_of, name_of}
 use Rattle.tftp_negotiate.specs.declared.known.Kind.TheVariants.{Read, Write}
-use Rattle.tftp_player.specs.Completing.{Transfers, nothing_asked, blocks_of_8, two_blocks, three_blocks}
-use Rattle.tftp_player.specs.Straight.{SomeReadIsStraight, SomeWriteIsStraight}
+use Rattle.tftp_player.specs.Completing.{nothing_asked, blocks_of_8, two_blocks, three_blocks}
 use Rattle.tftp_player.proofs.Witness.{Sample, Runs, name, read_is_straight_by, transfers_by, write_is_straight_by}
+use Rattle.tftp_negotiate.specs.Answer.{answered_option}
+use Rattle.std.specs.Fmt.{digits}
+use Rattle.tftp_negotiate.specs.Negotiation.{occurrences_of}
+use Rattle.tftp_negotiate.specs.Agreement.{taken_option}
 
 -- in octet a block stands for its own bytes
 abbrev same : List ℕ → List ℕ

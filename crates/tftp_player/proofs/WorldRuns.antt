@@ -1,29 +1,22 @@
 -- Each event keeps a world, and so does every run. For `World::new`, `a_step_keeps_a_world` and 24 other files.
 use Rattle.tftp_player.proofs.Common.{common_steps, ◌≡◌, ℕ, Bool, true, false, List, [], ◌∷◌, ◌++◌, map, set, Option}
-use Rattle.tftp_player.proofs.Common.{Some, None, sym, refl, ap, ◌∙◌, subst, inl, inr, zero, suc, length, arith, rules}
-use Rattle.tftp_player.proofs.Common.{◌≤◌, if◌then◌else◌, is_some, slice_get, Contains, true≢false, append-nil}
-use Rattle.tftp_player.proofs.Common.{Contains-append_cases, Contains-append_left, same_Some, Spells, one_meaning}
-use Rattle.tftp_player.proofs.Common.{Config, IsBlockSize, is_sender, is_client, Decodes, timeout_turn, two_hosts}
-use Rattle.tftp_player.proofs.Common.{Endpoint, Elsewhere, Message, Rule, message, said, OpenEnd, files_of, EndView}
-use Rattle.tftp_player.proofs.Common.{IsShownWithin, WorldState, WorldEnd, Open_end, Closed_end, StoredFile, file_at}
-use Rattle.tftp_player.proofs.Common.{in_the_way, datagram, new_world, view_of_end, may_refuse_commit, OnDatagram}
-use Rattle.tftp_player.proofs.Common.{Delivery, At_request_port, At_open_end, At_closed_end, At_nobody, TimeoutStep}
-use Rattle.tftp_player.proofs.Common.{armed_end, WorldStep, HasAsker, IsKeptIn, RefinesAt, RefinesWithin, Refines}
-use Rattle.tftp_player.proofs.Common.{PlaysAll, MayHappen, Datagram, Event, Get, Put, Deliver, Timeout, RefuseStore}
-use Rattle.tftp_player.proofs.Common.{Stray, Report, slice_get-set_cases}
-use Rattle.std.proofs.lemmas.List.{map-set}
-use Rattle.std.proofs.lemmas.List.Elements.{Contains-append_right, Contains-push}
-use Rattle.tftp_wire.specs.declared.packet.Packet.{Packet as WirePacket}
-use Rattle.tftp_wire.proofs.SpellingLemmas.{spelled_has_no_fault}
-use Rattle.tftp_rules.specs.Hosts.{host_of}
-use Rattle.tftp_rules.specs.OpenEnds.{open_view}
-use Rattle.tftp_rules.specs.EndShown.{Stands, IsOpenAt, IsThere}
+use Rattle.tftp_player.proofs.Common.{Some, None, sym, refl, ap, ◌∙◌, subst, inl, inr, length, arith, rules, ◌≤◌}
+use Rattle.tftp_player.proofs.Common.{is_some, slice_get, Contains, true≢false, append-nil, Contains-append_cases}
+use Rattle.tftp_player.proofs.Common.{Contains-append_left, Spells, one_meaning, Config, IsBlockSize, is_client}
+use Rattle.tftp_player.proofs.Common.{Decodes, timeout_turn, two_hosts, Endpoint, Elsewhere, Message, Rule, message}
+use Rattle.tftp_player.proofs.Common.{said, OpenEnd, files_of, EndView, IsShownWithin, WorldState, WorldEnd, Open_end}
+use Rattle.tftp_player.proofs.Common.{Closed_end, StoredFile, file_at, in_the_way, datagram, new_world, view_of_end}
+use Rattle.tftp_player.proofs.Common.{may_refuse_commit, OnDatagram, Delivery, At_request_port, At_open_end}
+use Rattle.tftp_player.proofs.Common.{At_closed_end, At_nobody, TimeoutStep, armed_end, WorldStep, HasAsker, IsKeptIn}
+use Rattle.tftp_player.proofs.Common.{RefinesAt, RefinesWithin, Refines, PlaysAll, MayHappen, Datagram, Event, Get, Put}
+use Rattle.tftp_player.proofs.Common.{Deliver, Timeout, RefuseStore, Stray, Report, slice_get-set_cases, map-set}
+use Rattle.tftp_player.proofs.Common.{Contains-push, WirePacket, spelled_has_no_fault, host_of, open_view, IsThere}
+use Rattle.tftp_player.proofs.Common.{says_spelled, IsShownAt, HasPeersAtHome}
+use Rattle.tftp_rules.specs.EndShown.{Stands, IsOpenAt}
 use Rattle.tftp_rules.proofs.Actions.{strays}
-use Rattle.tftp_rules.proofs.SaidLemmas.{says_spelled}
 use Rattle.tftp_rules.proofs.EndTurns.{datagram_goes, timeout_goes}
-use Rattle.tftp_rules.specs.Shows.{IsShownAt, IsShown}
+use Rattle.tftp_rules.specs.Shows.{IsShown}
 use Rattle.tftp_player.specs.WorldRuns.{MayAllHappen, StepsKeep, StepsAreRules, most_rules}
-use Rattle.tftp_player.specs.WorldSafety.{HasPeersAtHome}
 use Rattle.tftp_player.proofs.Standing.{open_is}
 use Rattle.tftp_rules.proofs.Refines.{shown_start}
 use Rattle.tftp_rules.proofs.ViewSafe.{shown_at_home}
@@ -33,19 +26,8 @@ use Rattle.tftp_player.proofs.TermsKept.{step_has, timeout_has}
 use Rattle.tftp_player.proofs.WorldTurns.{ports_set, nothing_in, one_in, turn_keeps, view_at}
 use Rattle.tftp_player.proofs.WorldKeeps.{reading_keeps, writing_keeps, serving_keeps, asked_so, stays_ok, none_more}
 use Rattle.tftp_player.proofs.WorldKeeps.{shown_as}
-
--- a list contains what is at an index
-pub contains_at : {X : Type 0} (xs : List X) (k : ℕ) (x : X) → slice_get xs k ≡ Some x → Contains xs x
-contains_at {X = X} [] k x e = absurd (let f : None ≡ Some x = e in cc)
-contains_at {X = X} (y ∷ ys) zero x e =
-    subst (λ (z : X). Contains (y ∷ ys) z) (same_Some y x e) (Contains-append_left (y ∷ []) ys y (Contains-push [] y))
-contains_at {X = X} (y ∷ ys) (suc k) x e = Contains-append_right (y ∷ []) ys x (contains_at ys k x e)
-
--- to write what is there changes nothing
-pub set_same : {X : Type 0} (xs : List X) (k : ℕ) (x : X) → slice_get xs k ≡ Some x → set xs k x ≡ xs
-set_same {X = X} [] k x e = refl
-set_same {X = X} (y ∷ ys) zero x e = ap (λ (z : X). z ∷ ys) (sym (same_Some y x e))
-set_same {X = X} (y ∷ ys) (suc k) x e = ap (λ (zs : List X). y ∷ zs) (set_same ys k x e)
+use Rattle.tftp_player.proofs.Changes.{contains_at, armed_has}
+use Rattle.tftp_player.proofs.HostEnds.{same_set}
 
 -- what a datagram of the list says is there
 pub come_from : (first : List Rule) (strangers : Bool) (w : WorldState) (ok : RefinesAt first strangers w)
@@ -110,57 +92,45 @@ module _ (first : List Rule) (strangers : Bool) (w v : WorldState) (ok : Refines
       Delivery w from to bytes report v → RefinesWithin 3 first strangers v
   arrives_keeps from to bytes come (At_request_port here port decoded says repeated same served) =
       let spelled = says_spelled bytes decoded says in
-      serving_keeps first strangers w v from bytes report ok repeated decoded
+      serving_keeps first strangers w ok v from bytes report repeated decoded
       (asked_so ok.messages w.ends from bytes repeated decoded
       (λ p e. subst (λ (a : Endpoint). Contains ok.messages (message from a (said p))) here (come p (spelled p e)))
       spelled same) served
   arrives_keeps from to bytes come (At_open_end k x at here h) =
       datagram_keeps k x from bytes at
       (λ p s. subst (λ (a : Endpoint). Contains ok.messages (message from a (said p))) (sym here) (come p s)) h
-  arrives_keeps from to bytes come (At_closed_end k x at here s) = stays_ok first strangers w v report ok s
-  arrives_keeps from to bytes come (At_nobody away nobody_there s) = stays_ok first strangers w v report ok s
+  arrives_keeps from to bytes come (At_closed_end k x at here s) = stays_ok first strangers w ok v report s
+  arrives_keeps from to bytes come (At_nobody away nobody_there s) = stays_ok first strangers w ok v report s
 
   -- a timeout keeps the world
   timeout_keeps : (k : ℕ) (x : WorldEnd) → slice_get w.ends k ≡ Some x → TimeoutStep w k x report v →
       RefinesWithin 3 first strangers v
-  timeout_keeps k (Closed_end x) at s = stays_ok first strangers w v report ok s
+  timeout_keeps k (Closed_end x) at s = stays_ok first strangers w ok v report s
   timeout_keeps k (Open_end x) at t =
       turn_keeps first strangers w v ok k x (timeout_turn x.state) (files_of x) report at
       (timeout_goes two_hosts first (map view_of_end w.ends) ok.messages k x (open_now k x at))
       (λ agreed e. timeout_has agreed x.state e) t
 
 -- what is to be refused is not shown of an end
-armed_open : (b : Bool) (x : OpenEnd) →
-    view_of_end (Open_end (if b then x else record x { refuses = true })) ≡ view_of_end (Open_end x)
-armed_open true x = refl
-armed_open false x = refl
-
 armed_view : (x : WorldEnd) → view_of_end (armed_end x) ≡ view_of_end x
-armed_view (Open_end x) = armed_open (is_sender x.state.role.side) x
-armed_view (Closed_end x) = refl
+armed_view x = armed_has (λ z. view_of_end z ≡ view_of_end x) (λ z h. h) x refl
 
 armed_asked : (w : WorldState) (x : OpenEnd) → HasAsker w (Open_end x) →
     HasAsker w (Open_end (record x { refuses = true }))
 armed_asked w x h = search rules
 
-armed_kept : (w : WorldState) (b : Bool) (x : OpenEnd) → IsKeptIn w (Open_end x) →
-    IsKeptIn w (Open_end (if b then x else record x { refuses = true }))
-armed_kept w true x h = h
-armed_kept w false x h = record {
-  stands = record {
-    still = h.stands.still;
-    kept = kept_armed two_hosts x true h.stands.kept;
-    last_sent = h.stands.last_sent;
-  };
-  asked = λ server. armed_asked w x (h.asked server);
-  sends = h.sends;
-  stored = h.stored;
-  text = h.text;
-}
-
 end_armed : (w : WorldState) (x : WorldEnd) → IsKeptIn w x → IsKeptIn w (armed_end x)
-end_armed w (Open_end x) h = armed_kept w (is_sender x.state.role.side) x h
-end_armed w (Closed_end x) h = h
+end_armed w x h = armed_has (IsKeptIn w) (λ z k. record {
+  stands = record {
+    still = k.stands.still;
+    kept = kept_armed two_hosts z true k.stands.kept;
+    last_sent = k.stands.last_sent;
+  };
+  asked = λ server. armed_asked w z (k.asked server);
+  sends = k.sends;
+  stored = k.stored;
+  text = k.text;
+}) x h
 
 same_kept : (w : WorldState) (ends : List WorldEnd) (x : WorldEnd) → IsKeptIn w x →
     IsKeptIn (record w { ends = ends }) x
@@ -176,7 +146,7 @@ armed_keeps first strangers w ok k x at =
     let v = record w { ends = set w.ends k y } in
     let same : map view_of_end (set w.ends k y) ≡ map view_of_end w.ends =
     map-set view_of_end w.ends k y ∙ (ap (λ (e : EndView). set (map view_of_end w.ends) k e) (armed_view x)
-    ∙ set_same (map view_of_end w.ends) k (view_of_end x) (view_at w.ends k x at)) in
+    ∙ same_set (map view_of_end w.ends) k (view_of_end x) (view_at w.ends k x at)) in
     record {
       messages = ok.messages;
       shown =
@@ -266,18 +236,18 @@ stray_keeps first w v ok report from to bytes far (At_open_end k x at here g) =
     within_four first h.more true v h.few
     (arrives_keeps (first ++ h.more) true w v h.ok report from to bytes h.come (At_open_end k x at here g))
 stray_keeps first w v ok report from to bytes far (At_closed_end k x at here s) =
-    three_or_four first true v (stays_ok first true w v report ok s)
+    three_or_four first true v (stays_ok first true w ok v report s)
 stray_keeps first w v ok report from to bytes far (At_nobody away nobody_there s) =
-    three_or_four first true v (stays_ok first true w v report ok s)
+    three_or_four first true v (stays_ok first true w ok v report s)
 
 -- each step keeps the world, by more rules
 step_after : (first : List Rule) (strangers : Bool) (w v : WorldState) (event : Event) (report : Report) →
     MayHappen strangers event → RefinesAt first strangers w → WorldStep w event report v →
     RefinesWithin (most_rules event) first strangers v
 step_after first strangers w v (Get name mode asked) report may ok s =
-    reading_keeps first strangers w v name mode asked report ok s.1 s.2
+    reading_keeps first strangers w ok v name mode asked report s.1 s.2
 step_after first strangers w v (Put name mode asked bytes) report may ok s =
-    writing_keeps first strangers w v name mode asked bytes report ok s.1 s.2
+    writing_keeps first strangers w ok v name mode asked bytes report s.1 s.2
 step_after first strangers w v (Deliver i) report may ok s =
     arrives_keeps first strangers w v ok report s.0.from s.0.to s.0.bytes
     (come_from first strangers w ok s.0 (contains_at w.sent i s.0 s.1)) s.2

@@ -1,29 +1,26 @@
 -- A world that is kept is safe. For six functions, AnsweringEnds and ErrorsKnown.
 use Rattle.tftp_player.proofs.Common.{◌≡◌, ℕ, Bool, true, false, List, [], ◌++◌, map, Some, sym, refl, ap, ◌∙◌, subst}
-use Rattle.tftp_player.proofs.Common.{arith, rules, ◌≢◌, if◌then◌else◌, slice_get, Contains, true≢false, append-nil}
-use Rattle.tftp_player.proofs.Common.{same_Some, Mode, Octet, one_meaning, wire_text, is_sender, is_client, Attests}
-use Rattle.tftp_player.proofs.Common.{server_ip, client_ip, request_port, two_hosts, Endpoint, At_server, Elsewhere}
-use Rattle.tftp_player.proofs.Common.{Machine, Message, message, said, EndView, Matches, goes_on, WorldState, WorldEnd}
-use Rattle.tftp_player.proofs.Common.{Open_end, Closed_end, end_record, end_address, datagram, end_file, end_stored}
-use Rattle.tftp_player.proofs.Common.{new_world, view_of_end, HasPeer, IsSafe, IsKeptIn, Refines, shown_by}
-use Rattle.tftp_wire.specs.declared.mode.Mode.TheVariants.{Netascii}
+use Rattle.tftp_player.proofs.Common.{arith, rules, ◌≢◌, if◌then◌else◌, slice_get, true≢false, append-nil, same_Some}
+use Rattle.tftp_player.proofs.Common.{Mode, Octet, wire_text, is_sender, is_client, Attests, server_ip, client_ip}
+use Rattle.tftp_player.proofs.Common.{request_port, two_hosts, Endpoint, At_server, Elsewhere, said, EndView, Matches}
+use Rattle.tftp_player.proofs.Common.{goes_on, WorldState, WorldEnd, Open_end, Closed_end, end_record, end_address}
+use Rattle.tftp_player.proofs.Common.{end_file, end_stored, new_world, view_of_end, HasPeer, IsSafe, IsKeptIn, Refines}
+use Rattle.tftp_player.proofs.Common.{Netascii, home, requested, end_mode, end_committed, end_text, end_wire, WasAsked}
 use Rattle.tftp_wire.specs.declared.packet.Request.{Request as WireRequest}
 use Rattle.tftp_file.specs.Block.{IsPrefixOf}
-use Rattle.tftp_rules.specs.Facts.{home, IsServing, IsSoundParty}
-use Rattle.tftp_rules.specs.Hosts.{host_of}
-use Rattle.tftp_rules.specs.Machine.{At_client, Packet, Request, is_same_ip}
-use Rattle.tftp_rules.specs.Shows.{requested}
+use Rattle.tftp_rules.specs.Facts.{IsServing, IsSoundParty}
+use Rattle.tftp_rules.specs.Machine.{At_client, Request, is_same_ip}
 use Rattle.tftp_rules.specs.Safety.{AreSafe, IsSenderAt}
 use Rattle.tftp_rules.specs.ViewSafety.{IsAmong, IsSafeViews, safety_view}
-use Rattle.tftp_player.specs.World.{end_mode, end_committed, end_text, end_wire}
 use Rattle.tftp_player.specs.WorldSafety.{HasRequested, IsIn, AnswersClient, endpoint_of_end, safety_of}
-use Rattle.tftp_player.specs.WorldKept.{WasAsked}
 use Rattle.tftp_player.specs.WorldRuns.{WorldsAreSafe, PeersStayHome, KeptIsSafe}
 use Rattle.tftp_rules.proofs.HostBytes.{wire_prefix, wire_same}
 use Rattle.tftp_rules.proofs.Endpoints.{endpoint_from}
 use Rattle.tftp_rules.proofs.ViewSafe.{IsPrefixOf-trans, first_of_empty, shown_safe}
 use Rattle.tftp_player.proofs.WorldTurns.{home_not_elsewhere, view_at, viewed_at}
 use Rattle.tftp_player.proofs.WorldRuns.{run_keeps, new_ok, any_may, ok_at_home}
+use Rattle.tftp_player.proofs.WorldFacts.{any_of, attests, holds, matched, party, shows}
+use Rattle.tftp_rules.specs.Hosts.{host_of}
 
 end_of : (w : WorldState) (e : EndView) → IsAmong (map view_of_end w.ends) e →
     (x : WorldEnd) × IsIn w x × (view_of_end x ≡ e)
@@ -54,7 +51,11 @@ says_request : (write : Bool) (request : WireRequest) → said (requested write 
 says_request true request = refl
 says_request false request = refl
 
-module _ (strangers : Bool) (w : WorldState) (ok : Refines strangers w) where
+-- a sender's text
+pub wire_of : (x : WorldEnd) → is_sender (end_record x).side ≡ true → end_text x ≡ end_wire x
+wire_of x s = search rules
+
+module _ (w : WorldState) (ok : Refines true w) where
   safe : IsSafeViews two_hosts (map view_of_end w.ends)
   safe = shown_safe two_hosts (map view_of_end w.ends) ok.messages ok.shown
 
@@ -72,9 +73,6 @@ module _ (strangers : Bool) (w : WorldState) (ok : Refines strangers w) where
       end_text x ≡ wire_text (end_mode x) (end_stored x)
   whole x r d = search rules
 
-  wire_of : (x : WorldEnd) → is_sender (end_record x).side ≡ true → end_text x ≡ end_wire x
-  wire_of x s = search rules
-
   sends : (x : WorldEnd) → IsIn w x → is_sender (end_record x).side ≡ true →
       end_text x ≡ wire_text (end_mode x) (end_file x)
   sends x i s = wire_of x s ∙ (ok.ends i.0 x i.1).text
@@ -84,16 +82,9 @@ module _ (strangers : Bool) (w : WorldState) (ok : Refines strangers w) where
   committed (Open_end x) h r d = h.stands.kept.committed r ∙ d
   committed (Closed_end x) h r d = h.stands r ∙ d
 
-  matched : (k : ℕ) (x : WorldEnd) → slice_get w.ends k ≡ Some x →
-      Matches (view_of_end x)
-      ((shown_by two_hosts (map view_of_end w.ends) ok.messages ok.shown).0.party (end_address x))
-  matched k x i =
-      (shown_by two_hosts (map view_of_end w.ends) ok.messages ok.shown).3.ends k (view_of_end x) (view_at w.ends k x i)
-
   sound : (k : ℕ) (x : WorldEnd) → slice_get w.ends k ≡ Some x →
-      IsSoundParty two_hosts (shown_by two_hosts (map view_of_end w.ends) ok.messages ok.shown).0.party (end_address x)
-      ((shown_by two_hosts (map view_of_end w.ends) ok.messages ok.shown).0.party (end_address x))
-  sound k x i = search (rules, shown_by, matched)
+      IsSoundParty two_hosts (party w ok) (end_address x) (party w ok (end_address x))
+  sound k x i = (holds w ok).ends (end_address x) (matched w ok k x i).is_open
 
   -- the end that sends to x, if its view is among the views
   sender_at : (x : WorldEnd) (p : Endpoint) (v : EndView) →
@@ -120,50 +111,37 @@ module _ (strangers : Bool) (w : WorldState) (ok : Refines strangers w) where
   at_server : (x : WorldEnd) (p : Endpoint) → IsIn w x → is_client (end_record x).side ≡ true → HasPeer x p →
       host_of p ≡ At_server
   at_server x p i client peer =
-      let m = matched i.0 x i.1 in
-      ((sound i.0 x i.1).serving (m.client ∙ client) p (m.peer ∙ peer)).0
-
-  -- the machine that the world refines
-  abbrev m : Machine
-  m = (shown_by two_hosts (map view_of_end w.ends) ok.messages ok.shown).0
+      let at_x = matched w ok i.0 x i.1 in
+      ((sound i.0 x i.1).serving (at_x.client ∙ client) p (at_x.peer ∙ peer)).0
 
   -- a request of one of the two hosts is its end's
   attested : (a : Endpoint) (write : Bool) (request : WireRequest) → host_of a ≢ Elsewhere →
-      HasRequested w a write request → Attests (m.party a) request_port (Request write request)
+      HasRequested w a write request → Attests (party w ok a) request_port (Request write request)
   attested a write request near h =
-      let shown = shown_by two_hosts (map view_of_end w.ends) ok.messages ok.shown in
-      let says = ok.sent (datagram a request_port h.0) h.1 in
-      let packet : says.1.packet ≡ requested write request =
-      one_meaning says.1.packet (requested write request) h.0 says.1.spells h.2 in
-      let message_is : says.0 ≡ message a request_port (Request write request) =
-      says.1.says
-      ∙ ap (λ (p : Packet). message a request_port p) (ap said packet ∙ says_request write request) in
-      shown.1.attested (message a request_port (Request write request))
-      (subst (λ (ms : List Message). Contains ms (message a request_port (Request write request))) (sym shown.3.sent)
-      (subst (λ (n : Message). Contains ok.messages n) message_is says.2)) near
+      subst (Attests (party w ok a) request_port) (says_request write request)
+      (attests w ok a request_port h.0 (requested write request) near h.1 h.2)
 
   -- the peer of a client
   module _ (x : WorldEnd) (p : Endpoint) (i : IsIn w x) (client : is_client (end_record x).side ≡ true)
       (peer : HasPeer x p) where
-    serving : IsServing (end_address x) (m.party (end_address x)) (m.party p)
+    serving : IsServing (end_address x) (party w ok (end_address x)) (party w ok p)
     serving =
-        let at_x = matched i.0 x i.1 in ((sound i.0 x i.1).serving (at_x.client ∙ client) p (at_x.peer ∙ peer)).1
+        let at_x = matched w ok i.0 x i.1 in ((sound i.0 x i.1).serving (at_x.client ∙ client) p (at_x.peer ∙ peer)).1
 
     near : host_of (end_address x) ≢ Elsewhere
-    near far = home_not_elsewhere (m.party (end_address x)).client (sym (sound i.0 x i.1).at_home ∙ far)
+    near far = home_not_elsewhere (party w ok (end_address x)).client (sym (sound i.0 x i.1).at_home ∙ far)
 
     -- an end of the world is there
     there : (y : WorldEnd) × IsIn w y × (end_address y ≡ p)
     there =
-        let shown = shown_by two_hosts (map view_of_end w.ends) ok.messages ok.shown in
-        let at_peer = shown.3.only p serving.is_open in
+        let at_peer = (shows w ok).only p serving.is_open in
         let found = end_of w at_peer.1 (at_peer.0, at_peer.2) in
         let address : end_address found.0 ≡ at_peer.1.address = ap (λ (v : EndView). v.address) found.2 in
         (found.0, found.1, address ∙ at_peer.3)
 
     module _ (y : WorldEnd) (j : IsIn w y) (address : end_address y ≡ p) where
-      at_y : Matches (view_of_end y) (m.party p)
-      at_y = subst (λ (a : Endpoint). Matches (view_of_end y) (m.party a)) address (matched j.0 y j.1)
+      at_y : Matches (view_of_end y) (party w ok p)
+      at_y = subst (λ (a : Endpoint). Matches (view_of_end y) (party w ok a)) address (matched w ok j.0 y j.1)
 
       server : is_client (end_record y).side ≡ false
       server = sym at_y.client ∙ serving.client
@@ -178,7 +156,7 @@ module _ (strangers : Bool) (w : WorldState) (ok : Refines strangers w) where
           subst (λ (a : Endpoint). host_of a ≢ Elsewhere → WasAsked w a y) same by.2 near
 
       its_own : (write : Bool) (request : WireRequest) → HasRequested w (end_address x) write request →
-          Attests (m.party (end_address x)) request_port (Request write request)
+          Attests (party w ok (end_address x)) request_port (Request write request)
       its_own write request h = attested (end_address x) write request near h
 
       serves : AnswersClient w (end_address x) y
@@ -255,7 +233,7 @@ module _ (strangers : Bool) (w : WorldState) (ok : Refines strangers w) where
     at_address = λ k x i.
         let client = is_client (end_record x).side in
         endpoint_from (end_address x) (endpoint_of_end (end_record x).side k)
-        (ip_at_home (end_address x) client ((sound k x i).at_home ∙ ap home (matched k x i).client))
+        (ip_at_home (end_address x) client ((sound k x i).at_home ∙ ap home (matched w ok k x i).client))
         (ok.ports k x i);
     unique = λ x y i j e.
         let p = ok.ports i.0 x i.1 in
@@ -272,12 +250,12 @@ module _ (strangers : Bool) (w : WorldState) (ok : Refines strangers w) where
 
 -- a world that is kept is safe
 pub kept_is_safe : KeptIsSafe
-kept_is_safe strangers w ok = ok_safe strangers w ok
+kept_is_safe strangers w ok = ok_safe w (any_of strangers w ok)
 
 -- every run leads to a safe world
 pub worlds_are_safe : WorldsAreSafe
 worlds_are_safe files config events w max r =
-    ok_safe true w (run_keeps true events (new_world files config) w (any_may events) (new_ok true files config max) r)
+    ok_safe w (run_keeps true events (new_world files config) w (any_may events) (new_ok true files config max) r)
 
 -- without strangers every peer is at one of the two hosts
 pub peers_stay_home : PeersStayHome

@@ -10,18 +10,13 @@ use Rattle.tftp_player.proofs.Common.{Open_end, end_address, end_file, end_store
 use Rattle.tftp_player.proofs.Common.{replied, standing, has_committed, world_after, opened_in, said_in, view_of_end}
 use Rattle.tftp_player.proofs.Common.{FilesAfter, Turns, OpeningStep, HasAsker, HasPorts, IsKeptIn, RefinesAt}
 use Rattle.tftp_player.proofs.Common.{RefinesWithin, Datagram, Report, slice_get-set_cases, slice_get-push_cases}
-use Rattle.std.proofs.lemmas.List.{map-set, map-append}
-use Rattle.std.proofs.lemmas.List.Elements.{Contains-append_right, Contains-push}
-use Rattle.std.proofs.lemmas.Option.{slice_get-map}
-use Rattle.tftp_wire.specs.declared.packet.Packet.{Packet as WirePacket}
-use Rattle.tftp_rules.specs.Hosts.{host_of}
-use Rattle.tftp_rules.specs.EndKept.{EndKept}
-use Rattle.tftp_rules.specs.Facts.{home, Holds}
+use Rattle.tftp_player.proofs.Common.{map-set, Contains-append_right, Contains-push, slice_get-map, WirePacket, host_of}
+use Rattle.tftp_player.proofs.Common.{EndKept, home, Holds, Shows}
+use Rattle.std.proofs.lemmas.List.{map-append}
 use Rattle.tftp_rules.specs.Recorded.{AreRecorded}
-use Rattle.tftp_rules.specs.Shows.{Shows}
 use Rattle.tftp_rules.specs.EndShown.{Goes, Replies, Newest}
 use Rattle.tftp_player.specs.World.{end_path}
-use Rattle.tftp_player.specs.WorldKept.{IsOpenIn, StandsIn, SaysSo, MaySpeak}
+use Rattle.tftp_player.specs.WorldKept.{StandsIn, SaysSo, MaySpeak}
 use Rattle.tftp_player.proofs.Standing.{standing_address, standing_shown, standing_kept}
 
 -- the empty list contains nothing
@@ -197,108 +192,86 @@ complete_then : (old_done client old_committed new_committed : Bool) → old_com
     ⊎ ((not client && (not old_committed && new_committed)) ≡ true)
 complete_then old_done client old_committed new_committed o n c = search rules
 
--- a turn of an end keeps the world
-pub turn_keeps :
-    (first : List Rule) (strangers : Bool) (w v : WorldState) (ok : RefinesAt first strangers w) (k : ℕ) (x : OpenEnd)
-    (turn : Turn) (held : Files (List ℕ) Holding) (report : Report) →
-    slice_get w.ends k ≡ Some (Open_end x) →
-    Goes two_hosts first (map view_of_end w.ends) ok.messages k x turn (end_after x turn held) → TermsStay x turn →
-    Turns w k x turn held report v → RefinesWithin 3 first strangers v
-turn_keeps first strangers w v ok k x turn held report at g terms t =
-    subst (λ (z : WorldState). RefinesWithin 3 first strangers z) (sym t.is) later where
-      was : IsOpenIn w x
-      was = (ok.ends k (Open_end x) at).stands
+-- ---- a turn of an end
+module _ (first : List Rule) (strangers : Bool) (w v : WorldState) (ok : RefinesAt first strangers w) (k : ℕ)
+    (x : OpenEnd) (turn : Turn) (held : Files (List ℕ) Holding) (report : Report)
+    (at : slice_get w.ends k ≡ Some (Open_end x))
+    (g : Goes two_hosts first (map view_of_end w.ends) ok.messages k x turn (end_after x turn held))
+    (terms : TermsStay x turn) (t : Turns w k x turn held report v) where
+  abbrev y : OpenEnd
+  y = end_after x turn held
 
-      last_sent_is : (to : Endpoint) (bytes : List ℕ) → Newest x turn (end_after x turn held) →
-          Contains (w.sent ++ replied x.address turn.reply)
-          (datagram x.address (end_after x turn held).state.position.last_sent_to
-          (end_after x turn held).state.position.last_sent)
-      last_sent_is to bytes (inl e) =
-          let there =
-          Contains-append_left w.sent (replied x.address turn.reply)
-          (datagram x.address x.state.position.last_sent_to x.state.position.last_sent) was.last_sent in
-          subst
-          (λ (p : Endpoint).
-          Contains (w.sent ++ replied x.address turn.reply)
-          (datagram x.address p (end_after x turn held).state.position.last_sent)) (sym e.0)
-          (subst
-          (λ (b : List ℕ).
-          Contains (w.sent ++ replied x.address turn.reply) (datagram x.address x.state.position.last_sent_to b))
-          (sym e.1) there)
-      last_sent_is to bytes (inr e) =
-          let d =
-          datagram x.address (end_after x turn held).state.position.last_sent_to
-          (end_after x turn held).state.position.last_sent in
-          Contains-append_right w.sent (replied x.address turn.reply) d
-          (subst (λ (r : Option Reply). Contains (replied x.address r) d) (sym e) (here_in d))
+  abbrev now : WorldState
+  now = world_after w k x turn held t.files
 
-      stays : w.overwrite ≡ false → (q c : List ℕ) → file_at w.files q ≡ Some c → file_at t.files q ≡ Some c
-      stays =
-          files_stay w.overwrite (not (is_client x.state.role.side) && has_committed x (end_after x turn held)) x.path
-          (end_after x turn held).stored w.files t.files t.stored
+  abbrev more : List Datagram
+  more = replied x.address turn.reply
 
-      asked_is : is_client (end_after x turn held).state.role.side ≡ false →
-          HasAsker (world_after w k x turn held t.files) (Open_end (end_after x turn held))
-      asked_is c =
-          let client : is_client x.state.role.side ≡ false = ap is_client (sym g.side) ∙ c in
-          still_asked w (world_after w k x turn held t.files) (replied x.address turn.reply)
-          (Open_end (end_after x turn held)) refl
-          (turned_asked w x turn held terms ((ok.ends k (Open_end x) at).asked client))
+  was : IsKeptIn w (Open_end x)
+  was = ok.ends k (Open_end x) at
 
-      sends_is : w.overwrite ≡ false → is_client (end_after x turn held).state.role.side ≡ false →
-          is_sender (end_after x turn held).state.role.side ≡ true →
-          file_at t.files (end_after x turn held).path ≡ Some (end_after x turn held).file
-      sends_is o c s =
-          let client : is_client x.state.role.side ≡ false = ap is_client (sym g.side) ∙ c in
-          let sender : is_sender x.state.role.side ≡ true = ap is_sender (sym g.side) ∙ s in
-          stays o x.path x.file ((ok.ends k (Open_end x) at).sends o client sender)
+  client_was : is_client y.state.role.side ≡ false → is_client x.state.role.side ≡ false
+  client_was c = ap is_client (sym g.side) ∙ c
 
-      stored_is : w.overwrite ≡ false → is_client (end_after x turn held).state.role.side ≡ false →
-          is_sender (end_after x turn held).state.role.side ≡ false →
-          is_complete (end_after x turn held).state.position.phase ≡ true →
-          file_at t.files (end_after x turn held).path ≡ Some (end_after x turn held).stored
-      stored_is o c r d =
-          let y = end_after x turn held in
-          let client : is_client x.state.role.side ≡ false = ap is_client (sym g.side) ∙ c in
-          let receiver : is_sender x.state.role.side ≡ false = ap is_sender (sym g.side) ∙ r in
-          let old = was.kept.committed receiver in
-          let new : y.committed ≡ true = g.kept.committed r ∙ d in
-          elim (complete_then (is_complete x.state.position.phase) (is_client x.state.role.side) x.committed y.committed
-          old new client) [
-            | inl h ↦
-                stays o x.path y.stored
-                ((ok.ends k (Open_end x) at).stored o client receiver h.0
-                ∙ ap (λ (z : List ℕ). Some z) (sym (g.stored h.0)))
-            | inr h ↦ (subst (λ (b : Bool). FilesAfter w.overwrite b x.path y.stored w.files t.files) h t.stored).here
-          ]
+  last_sent_is : Newest x turn y →
+      Contains (w.sent ++ more) (datagram x.address y.state.position.last_sent_to y.state.position.last_sent)
+  last_sent_is (inl e) =
+      subst (λ (p : Endpoint). Contains (w.sent ++ more) (datagram x.address p y.state.position.last_sent)) (sym e.0)
+      (subst (λ (b : List ℕ). Contains (w.sent ++ more) (datagram x.address x.state.position.last_sent_to b)) (sym e.1)
+      (Contains-append_left w.sent more _ was.stands.last_sent))
+  last_sent_is (inr e) =
+      let d = datagram x.address y.state.position.last_sent_to y.state.position.last_sent in
+      Contains-append_right w.sent more d
+      (subst (λ (r : Option Reply). Contains (replied x.address r) d) (sym e) (here_in d))
 
-      later : RefinesWithin 3 first strangers (world_after w k x turn held t.files)
-      later =
-          let y = end_after x turn held in
-          let own = at_home first strangers w ok k (Open_end x) at in
-          record {
-            messages = ok.messages ++ g.said_now;
-            shown =
-                subst (λ (vs : List EndView). IsShownWithin two_hosts 3 first vs (ok.messages ++ g.said_now))
-                (sym (map-set view_of_end w.ends k (standing y)))
-                (standing_shown first (map view_of_end w.ends) (ok.messages ++ g.said_now) k (view_of_end (Open_end x))
-                y
-                (view_at w.ends k (Open_end x) at) g.shown);
-            sent = sent_then first strangers w ok x.address own turn.reply g.said_now g.replies;
-            only = only_then first strangers w ok x.address own turn.reply g.said_now g.replies;
-            speakers = speakers_then first strangers w ok x.address own turn.reply g.said_now g.replies;
-            ports = ports_set w k (Open_end x) (standing y) ok.ports at (standing_address y);
-            max_block = ok.max_block;
-            ends = λ j z i. elim (slice_get-set_cases w.ends k j (standing y) z i) [
-              | inl h ↦ subst (λ (u : WorldEnd). IsKeptIn (world_after w k x turn held t.files) u) (sym h.1)
-                  (standing_kept (world_after w k x turn held t.files) y g.kept
-                  (last_sent_is y.state.position.last_sent_to y.state.position.last_sent g.last_sent) stored_is
-                  (ok.ends k (Open_end x) at).text asked_is sends_is)
-              | inr h ↦
-                  still_kept w (world_after w k x turn held t.files) (replied x.address turn.reply) z refl refl stays
-                  (ok.ends j z h.1)
-            ];
-          }
+  stays : w.overwrite ≡ false → (q c : List ℕ) → file_at w.files q ≡ Some c → file_at t.files q ≡ Some c
+  stays =
+      files_stay w.overwrite (not (is_client x.state.role.side) && has_committed x y) x.path y.stored w.files t.files
+      t.stored
+
+  asked_is : is_client y.state.role.side ≡ false → HasAsker now (Open_end y)
+  asked_is c = still_asked w now more (Open_end y) refl (turned_asked w x turn held terms (was.asked (client_was c)))
+
+  sends_is : w.overwrite ≡ false → is_client y.state.role.side ≡ false → is_sender y.state.role.side ≡ true →
+      file_at t.files y.path ≡ Some y.file
+  sends_is o c s = stays o x.path x.file (was.sends o (client_was c) (ap is_sender (sym g.side) ∙ s))
+
+  stored_is : w.overwrite ≡ false → is_client y.state.role.side ≡ false → is_sender y.state.role.side ≡ false →
+      is_complete y.state.position.phase ≡ true → file_at t.files y.path ≡ Some y.stored
+  stored_is o c r d =
+      let receiver : is_sender x.state.role.side ≡ false = ap is_sender (sym g.side) ∙ r in
+      let new : y.committed ≡ true = g.kept.committed r ∙ d in
+      elim (complete_then (is_complete x.state.position.phase) (is_client x.state.role.side) x.committed y.committed
+      (was.stands.kept.committed receiver) new (client_was c)) [
+        | inl h ↦
+            stays o x.path y.stored
+            (was.stored o (client_was c) receiver h.0 ∙ ap (λ (z : List ℕ). Some z) (sym (g.stored h.0)))
+        | inr h ↦ (subst (λ (b : Bool). FilesAfter w.overwrite b x.path y.stored w.files t.files) h t.stored).here
+      ]
+
+  own : host_of x.address ≢ Elsewhere
+  own = at_home first strangers w ok k (Open_end x) at
+
+  -- it keeps the world
+  pub turn_keeps : RefinesWithin 3 first strangers v
+  turn_keeps = subst (λ (z : WorldState). RefinesWithin 3 first strangers z) (sym t.is) (record {
+    messages = ok.messages ++ g.said_now;
+    shown =
+        subst (λ (vs : List EndView). IsShownWithin two_hosts 3 first vs (ok.messages ++ g.said_now))
+        (sym (map-set view_of_end w.ends k (standing y)))
+        (standing_shown first (map view_of_end w.ends) (ok.messages ++ g.said_now) k (view_of_end (Open_end x)) y
+        (view_at w.ends k (Open_end x) at) g.shown);
+    sent = sent_then first strangers w ok x.address own turn.reply g.said_now g.replies;
+    only = only_then first strangers w ok x.address own turn.reply g.said_now g.replies;
+    speakers = speakers_then first strangers w ok x.address own turn.reply g.said_now g.replies;
+    ports = ports_set w k (Open_end x) (standing y) ok.ports at (standing_address y);
+    max_block = ok.max_block;
+    ends = λ j z i. elim (slice_get-set_cases w.ends k j (standing y) z i) [
+      | inl h ↦ subst (λ (u : WorldEnd). IsKeptIn now u) (sym h.1)
+          (standing_kept now y g.kept (last_sent_is g.last_sent) stored_is was.text asked_is sends_is)
+      | inr h ↦ still_kept w now more z refl refl stays (ok.ends j z h.1)
+    ];
+  })
 
 -- an end that opens at the server was asked for, and sends the file under its path
 pub record OpensAsked (w : WorldState) (x : OpenEnd) : Type 0 where

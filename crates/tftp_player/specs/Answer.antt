@@ -1,16 +1,9 @@
 -- What the server's request port answers, in the words of a world.
 use Rattle.std.specs.Prelude.{ℕ, ◌≡◌, false, List, [], Option, Some, None}
-use Rattle.tftp_wire.specs.declared.packet.Packet.{Packet}
-use Rattle.tftp_file.specs.declared.files.Files.{Files}
-use Rattle.tftp_file.specs.declared.files.Files.TheVariants.{Source, Sink}
-use Rattle.tftp_ends.specs.Action.{Decodes}
-use Rattle.tftp_ends.specs.End.{is_sender}
-use Rattle.tftp_ends.specs.Step.{error_bytes}
-use Rattle.tftp_server.specs.Port.{Service, Silent, Refused, Sends, Takes}
+use Rattle.tftp_player.specs.Common.{Packet, Files, Source, Sink, Decodes, is_sender, error_bytes}
+use Rattle.tftp_player.specs.Common.{Service, Silent, Refused, Sends, Takes, Drafted, new_draft}
+use Rattle.tftp_player.specs.Common.{OpenEnd, Endpoint}
 use Rattle.tftp_server.specs.declared.server.admission.Occupancy.{Occupancy}
-use Rattle.tftp_store.specs.Store.{Drafted, new_draft}
-use Rattle.tftp_rules.specs.Machine.{Endpoint}
-use Rattle.tftp_rules.specs.OpenEnds.{OpenEnd}
 use Rattle.tftp_player.specs.Openings.{sending_end, receiving_end}
 use Rattle.tftp_player.specs.Requests.{open_transfers, service}
 use Rattle.tftp_player.specs.ServerEnd.{PlayedServer, ServerTransfer, file_sent}

@@ -1,19 +1,13 @@
 -- The effect of a datagram on the ends of a world and the server, for every list of sent datagrams.
 use Rattle.std.specs.Prelude.{ℕ, ◌≡◌, ◌+◌, ◌<◌, ⊤, List, ◌++◌, length}
+use Rattle.tftp_player.specs.Common.{host_of, request_port, Datagram, Effect, Event, Stray}
+use Rattle.tftp_player.specs.Common.{WorldFault, NoPort, Memory, Endpoint}
 use Rattle.tftp_player.specs.Effect.{said_by, report_by}
-use Rattle.tftp_rules.specs.Hosts.{host_of, request_port}
-use Rattle.tftp_rules.specs.Machine.{Endpoint}
 use Rattle.tftp_rules.specs.Machine.{Elsewhere as Far}
 use Rattle.tftp_player.specs.ServerEnd.{PlayedServer}
 use Rattle.tftp_player.specs.Simulation.{world_of}
 use Rattle.tftp_player.specs.World.{WorldState, WorldEnd}
 use Rattle.tftp_player.specs.WorldSteps.{Delivery, LacksPort}
-use Rattle.tftp_player.specs.declared.datagram.Datagram.{Datagram}
-use Rattle.tftp_player.specs.declared.effect.Effect.{Effect}
-use Rattle.tftp_player.specs.declared.event.Event.{Event}
-use Rattle.tftp_player.specs.declared.event.Event.TheVariants.{Stray}
-use Rattle.tftp_player.specs.declared.fault.WorldFault.{WorldFault}
-use Rattle.tftp_player.specs.declared.fault.WorldFault.TheVariants.{NoPort, Memory}
 
 -- why an arrival is refused
 abbrev pub ArrivalRefuses : WorldState → Endpoint → WorldFault → Type 0

@@ -1,27 +1,17 @@
 -- The client of a world, as the struct that plays the world holds it.
 use Rattle.std.specs.Prelude.{ℕ, ◌≡◌, true, false, if◌then◌else◌, is_some, List, [], Option, Some}
 use Rattle.std.specs.Prelude.{None, ⊤}
+use Rattle.tftp_player.specs.Common.{Mode, Asked, Files, Source, Sink, Holding, EndState}
+use Rattle.tftp_player.specs.Common.{outcome_of, AreSame, Turn, after_turn, server_ip, client_ip}
+use Rattle.tftp_player.specs.Common.{request_port, Effect, WorldFault, BadRequest, Memory, Endpoint}
 use Rattle.tftp_wire.specs.Spelling.{canonical}
-use Rattle.tftp_wire.specs.declared.mode.Mode.{Mode}
 use Rattle.tftp_wire.specs.declared.packet.Packet.TheVariants.{Read, Write}
-use Rattle.tftp_negotiate.specs.declared.asked.Asked.{Asked}
-use Rattle.tftp_file.specs.declared.files.Files.{Files}
-use Rattle.tftp_file.specs.declared.files.Files.TheVariants.{Source, Sink}
-use Rattle.tftp_file.specs.Sink.{Holding}
 use Rattle.tftp_ends.specs.declared.fault.OpenFault.{OpenFault}
 use Rattle.tftp_ends.specs.declared.fault.OpenFault.TheVariants as opening
-use Rattle.tftp_ends.specs.End.{EndState, outcome_of}
-use Rattle.tftp_ends.specs.Files.{AreSame}
 use Rattle.tftp_ends.specs.Opening.{request_of}
-use Rattle.tftp_ends.specs.Step.{Turn, after_turn}
-use Rattle.tftp_rules.specs.Hosts.{server_ip, client_ip, request_port}
-use Rattle.tftp_rules.specs.Machine.{Endpoint}
 use Rattle.tftp_player.specs.Effect.{effect_of}
 use Rattle.tftp_player.specs.PlayedClient.{PlayedClient}
 use Rattle.tftp_player.specs.WorldSteps.{EndStep}
-use Rattle.tftp_player.specs.declared.effect.Effect.{Effect}
-use Rattle.tftp_player.specs.declared.fault.WorldFault.{WorldFault}
-use Rattle.tftp_player.specs.declared.fault.WorldFault.TheVariants.{BadRequest, Memory}
 
 -- the endpoint of a client's end, and of the server's
 abbrev pub client_at : ℕ → Endpoint

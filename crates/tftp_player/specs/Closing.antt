@@ -1,17 +1,13 @@
 -- How an end closes whose peer is at one of the two hosts: never because of what that peer sent.
 use Rattle.std.specs.Prelude.{ℕ, ◌≡◌, ◌≢◌, ◌⊎◌, ⊤, List, slice_get, Some}
 use Rattle.std.specs.List.{Contains}
-use Rattle.tftp_wire.specs.Spelling.{Spells}
+use Rattle.tftp_player.specs.Common.{Spells, Outcome, host_of, Elsewhere, Datagram, Endpoint}
 use Rattle.tftp_wire.specs.declared.packet.Packet.TheVariants.{Error}
-use Rattle.tftp_ends.specs.declared.outcome.Outcome.{Outcome}
 use Rattle.tftp_ends.specs.declared.outcome.Outcome.TheVariants as outcomes
-use Rattle.tftp_rules.specs.Hosts.{host_of}
-use Rattle.tftp_rules.specs.Machine.{Endpoint, Elsewhere}
 use Rattle.tftp_player.specs.Recovering.{IsReached}
 use Rattle.tftp_player.specs.World.{WorldState, ClosedEnd, WorldEnd, Closed_end, end_address}
 use Rattle.tftp_player.specs.World.{end_record}
 use Rattle.tftp_player.specs.WorldSafety.{IsIn, HasPeer}
-use Rattle.tftp_player.specs.declared.datagram.Datagram.{Datagram}
 
 -- an outcome that blames the peer for what it sent, or the end's own source
 abbrev pub Blames : Outcome → Type 0

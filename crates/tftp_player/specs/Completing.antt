@@ -1,13 +1,10 @@
 -- The definitions are not empty: some events transfer a file in a world.
 use Rattle.std.specs.Prelude.{◌≡◌, ℕ, true, List, [], ◌∷◌, Some, None}
-use Rattle.tftp_negotiate.specs.declared.asked.Asked.{Asked}
-use Rattle.tftp_ends.specs.End.{is_sender}
-use Rattle.tftp_server.specs.declared.config.Config.{Config}
+use Rattle.tftp_player.specs.Common.{Asked, is_sender, Config, Event}
 use Rattle.tftp_player.specs.World.{WorldState, WorldEnd, end_record, end_address, end_file}
 use Rattle.tftp_player.specs.World.{end_stored, StoredFile, new_world}
 use Rattle.tftp_player.specs.WorldRuns.{PlaysAll}
 use Rattle.tftp_player.specs.WorldSafety.{IsIn, IsReceiver, HasPeer, IsComplete}
-use Rattle.tftp_player.specs.declared.event.Event.{Event}
 
 -- a request without options
 abbrev pub nothing_asked : Asked

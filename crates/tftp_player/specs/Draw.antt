@@ -1,11 +1,10 @@
 -- The event that random words draw: a delivery of any datagram, or a timeout of any end.
 use Rattle.std.specs.Prelude.{ℕ, ◌+◌, ◌%◌, nat_lt, nat_eq, if◌then◌else◌, length, Option, Some}
 use Rattle.std.specs.Prelude.{None}
+use Rattle.tftp_player.specs.Common.{Event, Deliver, Timeout}
 use Rattle.rand_pcg.specs.Lcg.{Lcg}
 use Rattle.rand_pcg.specs.Pcg.{pcg32}
 use Rattle.tftp_player.specs.World.{WorldState}
-use Rattle.tftp_player.specs.declared.event.Event.{Event}
-use Rattle.tftp_player.specs.declared.event.Event.TheVariants.{Deliver, Timeout}
 
 -- six words in eight deliver a datagram, the others are a timeout; no event if no end was opened
 abbrev pub drawn : WorldState → (kind index : ℕ) → Option Event

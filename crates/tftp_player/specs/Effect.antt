@@ -1,12 +1,8 @@
 -- The result of an event, before it is recorded in the world.
 use Rattle.std.specs.Prelude.{ℕ, List, [], ◌∷◌, length, Option, Some, None, option_map}
-use Rattle.tftp_ends.specs.End.{outcome_of}
-use Rattle.tftp_ends.specs.Step.{Turn, Reply, reply_bytes}
-use Rattle.tftp_rules.specs.Machine.{Endpoint}
+use Rattle.tftp_player.specs.Common.{outcome_of, Turn, Reply, Datagram, Effect, Report, Endpoint}
+use Rattle.tftp_ends.specs.Step.{reply_bytes}
 use Rattle.tftp_player.specs.World.{datagram, closed_at}
-use Rattle.tftp_player.specs.declared.datagram.Datagram.{Datagram}
-use Rattle.tftp_player.specs.declared.effect.Effect.{Effect}
-use Rattle.tftp_player.specs.declared.report.Report.{Report}
 
 -- the result of a step of the end there
 abbrev pub effect_of : Endpoint → Turn → Effect

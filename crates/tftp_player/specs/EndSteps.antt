@@ -1,16 +1,11 @@
 -- The step of one end of a world at an event.
 use Rattle.std.specs.Prelude.{ℕ, ◌≡◌, ◌&&◌, not, Bool, List}
-use Rattle.tftp_file.specs.declared.files.Files.{Files}
-use Rattle.tftp_file.specs.Sink.{Holding}
-use Rattle.tftp_ends.specs.End.{is_client}
-use Rattle.tftp_ends.specs.Step.{Turn, timeout_turn}
-use Rattle.tftp_rules.specs.Machine.{Endpoint}
-use Rattle.tftp_rules.specs.OpenEnds.{OpenEnd, files_of, end_after}
+use Rattle.tftp_player.specs.Common.{Files, Holding, is_client, Turn, timeout_turn, OpenEnd}
+use Rattle.tftp_player.specs.Common.{files_of, end_after, Effect, Endpoint}
 use Rattle.tftp_player.specs.Effect.{effect_of, no_effect}
-use Rattle.tftp_player.specs.World.{StoredFile, ClosedEnd, WorldEnd, Open_end, Closed_end}
-use Rattle.tftp_player.specs.World.{file_at, in_the_way, has_committed, standing}
+use Rattle.tftp_player.specs.World.{StoredFile, ClosedEnd, WorldEnd, Open_end, Closed_end, file_at}
+use Rattle.tftp_player.specs.World.{in_the_way, has_committed, standing}
 use Rattle.tftp_player.specs.WorldSteps.{EndStep, FilesAfter}
-use Rattle.tftp_player.specs.declared.effect.Effect.{Effect}
 
 -- an open end made this turn, and is `y` then; `held` is its file after it
 pub record EndTurns (x : OpenEnd) (turn : Turn) (held : Files (List ℕ) Holding) (y : WorldEnd)

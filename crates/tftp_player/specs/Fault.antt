@@ -1,8 +1,7 @@
 -- The numbers of the faults.
 use Rattle.std.specs.Prelude.{ℕ}
-use Rattle.tftp_player.specs.declared.fault.WorldFault.{WorldFault}
-use Rattle.tftp_player.specs.declared.fault.WorldFault.TheVariants.{NoSuchDatagram, NoSuchEnd}
-use Rattle.tftp_player.specs.declared.fault.WorldFault.TheVariants.{NoPort, BadRequest, Memory}
+use Rattle.tftp_player.specs.Common.{WorldFault, NoSuchDatagram, NoSuchEnd, NoPort, BadRequest}
+use Rattle.tftp_player.specs.Common.{Memory}
 
 -- the number of a fault
 abbrev pub world_fault_number : WorldFault → ℕ

@@ -1,10 +1,8 @@
 -- What an event adds to all that was sent.
 use Rattle.std.specs.Prelude.{◌≡◌, ◌≤◌, List, ◌++◌, length}
+use Rattle.tftp_player.specs.Common.{Datagram, Event, Report}
 use Rattle.tftp_player.specs.World.{WorldState}
 use Rattle.tftp_player.specs.WorldSteps.{WorldStep}
-use Rattle.tftp_player.specs.declared.datagram.Datagram.{Datagram}
-use Rattle.tftp_player.specs.declared.event.Event.{Event}
-use Rattle.tftp_player.specs.declared.report.Report.{Report}
 
 -- at most one datagram was appended to all that was sent, and none was removed
 pub record AddsOneAtMost (old new : WorldState) : Type 0 where

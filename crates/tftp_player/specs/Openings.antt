@@ -1,19 +1,12 @@
 -- How the ends of a world open: the openings of an end, and the state that the world adds.
 use Rattle.std.specs.Prelude.{ℕ, false, List, [], length}
-use Rattle.tftp_negotiate.specs.declared.limits.TheConstants.{DEFAULT_BLOCK}
-use Rattle.tftp_wire.specs.declared.mode.Mode.{Mode}
-use Rattle.tftp_negotiate.specs.declared.asked.Asked.{Asked}
-use Rattle.tftp_negotiate.specs.declared.known.Known.{Known}
+use Rattle.tftp_player.specs.Common.{DEFAULT_BLOCK, Mode, Asked, Known, wire_text, EndState}
+use Rattle.tftp_player.specs.Common.{request_port, OpenEnd, Endpoint}
 use Rattle.tftp_file.specs.Block.{block}
-use Rattle.tftp_file.specs.Netascii.{wire_text}
-use Rattle.tftp_ends.specs.End.{EndState}
+use Rattle.tftp_rules.specs.EndOpens.{left_at_first}
+use Rattle.tftp_player.specs.World.{WorldState, next_port, ip_of}
 pub use Rattle.tftp_ends.specs.Opening.{request_of, getting, putting, serving_read, serving_write}
 pub use Rattle.tftp_ends.specs.Opening.{MayGet, MayPut}
-use Rattle.tftp_rules.specs.EndOpens.{left_at_first}
-use Rattle.tftp_rules.specs.Hosts.{request_port}
-use Rattle.tftp_rules.specs.Machine.{Endpoint}
-use Rattle.tftp_rules.specs.OpenEnds.{OpenEnd}
-use Rattle.tftp_player.specs.World.{WorldState, next_port, ip_of}
 
 -- an end as it opens at the next port, for this request and the file at a path, with this text left
 abbrev pub opening : WorldState → EndState → List ℕ → List ℕ → List ℕ → List ℕ → OpenEnd

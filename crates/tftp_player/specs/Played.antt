@@ -1,10 +1,6 @@
 -- The ends of a world, as the struct that plays the world holds them.
 use Rattle.std.specs.Prelude.{ℕ, ◌≡◌, ◌+◌, true, List, [], ◌∷◌}
-use Rattle.tftp_file.specs.Netascii.{wire_text}
-use Rattle.tftp_ends.specs.declared.record.Record.{Record}
-use Rattle.tftp_ends.specs.End.{EndState, is_client}
-use Rattle.tftp_ends.specs.Files.{AreFilesOf}
-use Rattle.tftp_rules.specs.OpenEnds.{OpenEnd}
+use Rattle.tftp_player.specs.Common.{wire_text, Record, EndState, is_client, AreFilesOf, OpenEnd}
 use Rattle.tftp_player.specs.Clients.{client_at, server_at, left_in, holding_in}
 use Rattle.tftp_player.specs.PlayedClient.{PlayedClient}
 use Rattle.tftp_player.specs.ServerEnd.{ServerEndKept, draft_or_new, server_end_draft}

@@ -1,10 +1,9 @@
 -- What the struct that plays a world holds.
 use Rattle.std.specs.Prelude.{◌≡◌, ◌≤◌, length, Bool, true, false, ◌||◌}
+use Rattle.tftp_player.specs.Common.{Event, Stray}
 use Rattle.tftp_player.specs.World.{WorldState}
 use Rattle.tftp_player.specs.WorldKept.{Refines}
 use Rattle.tftp_player.specs.WorldSafety.{HasPeersAtHome}
-use Rattle.tftp_player.specs.declared.event.Event.{Event}
-use Rattle.tftp_player.specs.declared.event.Event.TheVariants.{Stray}
 
 -- a world, and whether a datagram of neither host has arrived in it
 pub record PlayedWorld : Type 0 where

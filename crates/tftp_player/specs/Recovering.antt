@@ -1,38 +1,26 @@
 -- A transfer completes once the network behaves, whatever it has done so far.
-use Rattle.std.specs.Prelude.{ℕ, ◌≡◌, ◌+◌, ◌*◌, ◌-◌, ◌<◌, ◌≤◌, ◌⊎◌, true, false, ⊤, List}
-use Rattle.std.specs.Prelude.{length, slice_get, Some, Bool}
-use Rattle.tftp_wire.specs.declared.mode.Mode.{Mode}
-use Rattle.tftp_negotiate.specs.Agreed.{size}
-use Rattle.tftp_negotiate.specs.declared.asked.Asked.{Asked}
+use Rattle.std.specs.Prelude.{ℕ, ◌≡◌, ◌+◌, ◌*◌, ◌-◌, ◌<◌, ◌≤◌, ◌⊎◌, true, false, ⊤, List, length}
+use Rattle.std.specs.Prelude.{slice_get, Some, Bool}
+use Rattle.tftp_player.specs.Common.{Mode, size, Asked, Known, IsBlockSize, block_count, Fits}
+use Rattle.tftp_player.specs.Common.{wire_text, Service, Sends, Takes, Config, Waiting, Sending}
+use Rattle.tftp_player.specs.Common.{Receiving, is_client, OpenEnd, peer_of, Datagram, Event}
+use Rattle.tftp_player.specs.Common.{Timeout, Deliver, Report}
 use Rattle.tftp_negotiate.specs.declared.known.Kind.TheVariants as kinds
-use Rattle.tftp_negotiate.specs.declared.known.Known.{Known}
-use Rattle.tftp_negotiate.specs.Ranges.{IsBlockSize}
-use Rattle.tftp_file.specs.Block.{block_count, Fits}
-use Rattle.tftp_file.specs.Netascii.{wire_text}
-use Rattle.tftp_server.specs.Port.{Service, Sends, Takes}
-use Rattle.tftp_server.specs.declared.config.Config.{Config}
 use Rattle.tftp_ends.specs.declared.action.Action.{Action}
 use Rattle.tftp_ends.specs.declared.action.Action.TheVariants.{Respond, Send, Store}
 use Rattle.tftp_ends.specs.declared.action.Response.TheVariants.{Accept}
-use Rattle.tftp_ends.specs.declared.phase.Phase.TheVariants.{Waiting, Sending, Receiving}
 use Rattle.tftp_ends.specs.declared.phase.Terms.{Terms}
 use Rattle.tftp_ends.specs.Action.{HandledBy}
-use Rattle.tftp_ends.specs.End.{is_client}
 use Rattle.tftp_ends.specs.Step.{ack_bytes}
-use Rattle.tftp_rules.specs.OpenEnds.{OpenEnd, peer_of}
 use Rattle.tftp_player.specs.Settling.{Settled}
-use Rattle.tftp_player.specs.Straight.{AllTaken, HaveTaken, IsAccepted, TakesAnswer}
-use Rattle.tftp_player.specs.Straight.{read_adds, write_adds}
-use Rattle.tftp_player.specs.World.{WorldState, StoredFile, WorldEnd, Open_end}
-use Rattle.tftp_player.specs.World.{new_world, file_at, datagram, end_address, end_record, is_closed}
+use Rattle.tftp_player.specs.Straight.{AllTaken, HaveTaken, IsAccepted, TakesAnswer, read_adds}
+use Rattle.tftp_player.specs.Straight.{write_adds}
+use Rattle.tftp_player.specs.World.{WorldState, StoredFile, WorldEnd, Open_end, new_world, file_at}
+use Rattle.tftp_player.specs.World.{datagram, end_address, end_record, is_closed}
 use Rattle.tftp_player.specs.WorldKept.{Refines}
 use Rattle.tftp_player.specs.WorldRuns.{PlaysAll}
 use Rattle.tftp_player.specs.WorldSafety.{IsIn, IsReceiver, IsComplete, HasPeer}
 use Rattle.tftp_player.specs.WorldSteps.{WorldStep, Settles}
-use Rattle.tftp_player.specs.declared.datagram.Datagram.{Datagram}
-use Rattle.tftp_player.specs.declared.event.Event.{Event}
-use Rattle.tftp_player.specs.declared.event.Event.TheVariants.{Timeout, Deliver}
-use Rattle.tftp_player.specs.declared.report.Report.{Report}
 
 -- some list of events leads to this world
 pub record IsReached (w : WorldState) : Type 0 where

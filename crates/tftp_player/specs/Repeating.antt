@@ -1,16 +1,11 @@
 -- A request that repeats that of an open transfer opens no end (RFC 1350, section 4).
 use Rattle.std.specs.Prelude.{◌≡◌, ◌<◌, ℕ, Bool, false, List, length, slice_get, Some}
-use Rattle.tftp_wire.specs.Spelling.{Spells}
-use Rattle.tftp_wire.specs.declared.packet.Packet.{Packet}
+use Rattle.tftp_player.specs.Common.{Spells, Packet, request_port, Event, Report, Endpoint}
 use Rattle.tftp_wire.specs.declared.packet.Packet.TheVariants.{Read, Write}
-use Rattle.tftp_rules.specs.Hosts.{request_port}
-use Rattle.tftp_rules.specs.Machine.{Endpoint}
 use Rattle.tftp_player.specs.Requests.{Repeats, AnyRepeats}
 use Rattle.tftp_player.specs.World.{WorldState, WorldEnd, is_closed, no_report}
 use Rattle.tftp_player.specs.WorldKept.{Refines}
 use Rattle.tftp_player.specs.WorldSteps.{Delivery, WorldStep}
-use Rattle.tftp_player.specs.declared.event.Event.{Event}
-use Rattle.tftp_player.specs.declared.report.Report.{Report}
 
 -- only these two packets ask for a transfer
 abbrev pub AsksForTransfer : Packet → Type 0

@@ -1,18 +1,13 @@
 -- The request port of a world's server: the server's tests, over the world's files.
-use Rattle.std.specs.Prelude.{ℕ, Bool, false, not, List, count_by}
-use Rattle.std.specs.Prelude.{Option, Some, None, Result, Ok, Err}
-use Rattle.tftp_wire.specs.declared.mode.Mode.{Mode}
-use Rattle.tftp_wire.specs.declared.packet.Packet.{Packet}
+use Rattle.std.specs.Prelude.{ℕ, Bool, false, not, List, count_by, Option, Some, None, Result, Ok}
+use Rattle.std.specs.Prelude.{Err}
+use Rattle.tftp_player.specs.Common.{Mode, Packet, is_client, Service, OpenEnd, peer_of, Endpoint}
 use Rattle.tftp_file.specs.declared.fault.StoreFault.{StoreFault}
 use Rattle.tftp_file.specs.declared.fault.StoreFault.TheVariants.{Missing, Exists}
-use Rattle.tftp_ends.specs.End.{is_client}
-use Rattle.tftp_server.specs.Port.{Ask, Service, answered, service as service_by}
+use Rattle.tftp_server.specs.Port.{Ask, answered, service as service_by}
 use Rattle.tftp_server.specs.State.{WasRequested, AnyByRecursion, RepeatsOne}
 use Rattle.tftp_store.specs.Store.{measured}
-use Rattle.tftp_rules.specs.Machine.{Endpoint}
-use Rattle.tftp_rules.specs.OpenEnds.{OpenEnd, peer_of}
-use Rattle.tftp_player.specs.World.{WorldState, WorldEnd, Open_end, Closed_end, file_at}
-use Rattle.tftp_player.specs.World.{in_the_way}
+use Rattle.tftp_player.specs.World.{WorldState, WorldEnd, Open_end, Closed_end, file_at, in_the_way}
 
 -- an open end of the server
 abbrev pub is_transfer : WorldEnd → Bool

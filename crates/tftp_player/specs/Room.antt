@@ -1,14 +1,10 @@
 -- Internal to the code: the capacity reserved for the datagram that an event sends.
 use Rattle.std.specs.Prelude.{ℕ, ◌+◌, ◌≤◌, max, if◌then◌else◌, Option, Some, None}
+use Rattle.tftp_player.specs.Common.{DEFAULT_BLOCK, Phase, Waiting, Sending, Receiving, Record}
+use Rattle.tftp_player.specs.Common.{is_sender, Endpoint}
 use Rattle.tftp_wire.specs.declared.limits.TheConstants.{HEADER}
-use Rattle.tftp_negotiate.specs.declared.limits.TheConstants.{DEFAULT_BLOCK}
-use Rattle.tftp_ends.specs.declared.endpoint.Endpoint.{Endpoint}
-use Rattle.tftp_ends.specs.declared.phase.Phase.{Phase}
-use Rattle.tftp_ends.specs.declared.phase.Phase.TheVariants.{Waiting, Sending, Receiving, Dallying}
-use Rattle.tftp_ends.specs.declared.phase.Phase.TheVariants.{Closed}
-use Rattle.tftp_ends.specs.declared.record.Record.{Record}
+use Rattle.tftp_ends.specs.declared.phase.Phase.TheVariants.{Dallying, Closed}
 use Rattle.tftp_ends.specs.declared.reply.TheConstants.{MAX_ERROR}
-use Rattle.tftp_ends.specs.End.{is_sender}
 
 -- the largest block size that a client may agree to: the requested one, or the default if the
 -- server answers without options

@@ -1,22 +1,17 @@
 -- An end of a world's server, as the struct that plays it holds it.
 use Rattle.std.specs.Prelude.{ℕ, ◌≡◌, Bool, true, false, ◌&&◌, not, if◌then◌else◌, is_some, List}
 use Rattle.std.specs.Prelude.{[], Option, Some, None, ⊤}
-use Rattle.tftp_file.specs.Memory.{memory_source}
-use Rattle.tftp_file.specs.declared.files.Files.{Files}
-use Rattle.tftp_file.specs.declared.files.Files.TheVariants.{Source, Sink}
-use Rattle.tftp_ends.specs.declared.phase.Phase.{Phase}
-use Rattle.tftp_ends.specs.End.{is_client, is_complete, terms_of}
-use Rattle.tftp_ends.specs.Files.{AreFilesOf, AreSame}
-use Rattle.tftp_ends.specs.Step.{Turn, after_turn, timeout_turn}
+use Rattle.tftp_player.specs.Common.{memory_source, Files, Source, Sink, Phase, is_client}
+use Rattle.tftp_player.specs.Common.{AreFilesOf, AreSame, Turn, after_turn, timeout_turn, Drafted}
+use Rattle.tftp_player.specs.Common.{new_draft, Effect, Endpoint}
+use Rattle.tftp_ends.specs.End.{is_complete, terms_of}
 use Rattle.tftp_server.specs.Draft.{files_in, KeepsStore}
 use Rattle.tftp_store.specs.Memory.{memory_meaning, with_armed}
 use Rattle.tftp_server.specs.State.{TransferState, ServerState, draft_of, is_closed}
 use Rattle.tftp_server.specs.Steps.{StepIn, with_end}
-use Rattle.tftp_store.specs.Store.{Stored, Drafted, new_draft}
-use Rattle.tftp_rules.specs.Machine.{Endpoint}
+use Rattle.tftp_store.specs.Store.{Stored}
 use Rattle.tftp_player.specs.Clients.{server_at}
 use Rattle.tftp_player.specs.Effect.{effect_of}
-use Rattle.tftp_player.specs.declared.effect.Effect.{Effect}
 use Rattle.tftp_player.specs.declared.server_end.ServerEnd.{ServerEnd}
 
 -- the server that is asked, and a transfer that it opened

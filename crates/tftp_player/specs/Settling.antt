@@ -1,10 +1,8 @@
 -- How datagrams are delivered one after another.
 use Rattle.std.specs.Prelude.{ℕ, ◌≡◌, ◌+◌, ◌<◌, ◌≤◌, ◌⊎◌, List, length}
+use Rattle.tftp_player.specs.Common.{Deliver, WorldFault, Report}
 use Rattle.tftp_player.specs.World.{WorldState}
 use Rattle.tftp_player.specs.WorldSteps.{Settles, WorldRefuses}
-use Rattle.tftp_player.specs.declared.event.Event.TheVariants.{Deliver}
-use Rattle.tftp_player.specs.declared.fault.WorldFault.{WorldFault}
-use Rattle.tftp_player.specs.declared.report.Report.{Report}
 
 -- `count` were delivered: `most` of them, or all that there are
 pub record Settled (old : WorldState) (from most count : ℕ) (new : WorldState) : Type 0 where

@@ -2,23 +2,17 @@
 use Rattle.std.specs.Prelude.{ℕ, ◌+◌, ◌≡◌, ◌≢◌, ◌⊎◌, ◌-◌, nat_lt, if◌then◌else◌, Bool, false, List}
 use Rattle.std.specs.Prelude.{[], ◌∷◌, ◌++◌, slice_get, slice_set, Option, Some, None, option_map}
 use Rattle.std.specs.Prelude.{option_and_then, unwrap_or}
-use Rattle.tftp_ends.specs.declared.record.Record.{Record}
-use Rattle.tftp_ends.specs.End.{is_sender}
-use Rattle.tftp_rules.specs.Machine.{Endpoint}
-use Rattle.tftp_server.specs.declared.config.Config.{Config}
+use Rattle.tftp_player.specs.Common.{Record, is_sender, Config, Datagram, Effect, Report, Endpoint}
 use Rattle.tftp_player.specs.Effect.{no_effect, said_by, report_by}
 use Rattle.tftp_player.specs.EndSteps.{EndTimesOut, EndTakes}
 use Rattle.tftp_player.specs.Played.{client_end, records_from}
 use Rattle.tftp_player.specs.PlayedClient.{PlayedClient}
 use Rattle.tftp_player.specs.ServerEnd.{PlayedServer}
-use Rattle.tftp_player.specs.World.{WorldState, WorldEnd, end_record, end_address}
-use Rattle.tftp_player.specs.World.{end_stored, end_committed, next_port, standing}
+use Rattle.tftp_player.specs.World.{WorldState, WorldEnd, end_record, end_address, end_stored}
+use Rattle.tftp_player.specs.World.{end_committed, next_port, standing}
 use Rattle.tftp_player.specs.WorldSteps.{HasPort}
 use Rattle.tftp_player.specs.declared.client.ClientSetup.{ClientSetup}
-use Rattle.tftp_player.specs.declared.datagram.Datagram.{Datagram}
-use Rattle.tftp_player.specs.declared.effect.Effect.{Effect}
 use Rattle.tftp_player.specs.declared.ends.Ends.{Ends}
-use Rattle.tftp_player.specs.declared.report.Report.{Report}
 
 -- the ends, the server and the records are consistent
 pub record ArePartsConsistent (server : PlayedServer) (ends : List WorldEnd)

@@ -2,21 +2,14 @@
 -- order.
 use Rattle.std.specs.Prelude.{ℕ, ◌≡◌, ◌≢◌, ◌+◌, ◌*◌, ◌<◌, ◌≤◌, false, Bool, ⊤, List, [], ◌∷◌}
 use Rattle.std.specs.Prelude.{length, slice_get, Option, Some, None, Ok}
-use Rattle.tftp_wire.specs.declared.mode.Mode.{Mode}
-use Rattle.tftp_wire.specs.declared.packet.Packet.{Packet}
-use Rattle.tftp_negotiate.specs.Agreed.{size, agreed_options}
+use Rattle.tftp_player.specs.Common.{Mode, Packet, size, Asked, Known, block_count, Fits, wire_text}
+use Rattle.tftp_player.specs.Common.{Outcome, Decodes, Service, Sends, Takes, OpenEnd, Event, Get}
+use Rattle.tftp_player.specs.Common.{Put, Report}
+use Rattle.tftp_negotiate.specs.Agreed.{agreed_options}
 use Rattle.tftp_negotiate.specs.Agreement.{agreement}
-use Rattle.tftp_negotiate.specs.declared.asked.Asked.{Asked}
 use Rattle.tftp_negotiate.specs.declared.known.Kind.{Kind}
 use Rattle.tftp_negotiate.specs.declared.known.Kind.TheVariants.{Read, Write}
-use Rattle.tftp_negotiate.specs.declared.known.Known.{Known}
-use Rattle.tftp_file.specs.Block.{block_count, Fits}
-use Rattle.tftp_file.specs.Netascii.{wire_text}
-use Rattle.tftp_ends.specs.declared.outcome.Outcome.{Outcome}
 use Rattle.tftp_ends.specs.declared.outcome.Outcome.TheVariants.{StoreFault}
-use Rattle.tftp_ends.specs.Action.{Decodes}
-use Rattle.tftp_server.specs.Port.{Service, Sends, Takes}
-use Rattle.tftp_rules.specs.OpenEnds.{OpenEnd}
 use Rattle.tftp_player.specs.Openings.{reading_client, writing_client}
 use Rattle.tftp_player.specs.Requests.{IsRepeated, service}
 use Rattle.tftp_player.specs.Settling.{Settled}
@@ -24,9 +17,6 @@ use Rattle.tftp_player.specs.World.{WorldState, ClosedEnd, WorldEnd, Closed_end,
 use Rattle.tftp_player.specs.WorldKept.{Refines}
 use Rattle.tftp_player.specs.WorldSafety.{IsComplete}
 use Rattle.tftp_player.specs.WorldSteps.{WorldStep, Settles}
-use Rattle.tftp_player.specs.declared.event.Event.{Event}
-use Rattle.tftp_player.specs.declared.event.Event.TheVariants.{Get, Put}
-use Rattle.tftp_player.specs.declared.report.Report.{Report}
 
 -- nothing is lost, repeated or late: a client opens, and all other events are deliveries
 pub record RunsStraight (old : WorldState) (opening : Event) (new : WorldState) : Type 0 where

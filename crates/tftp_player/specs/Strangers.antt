@@ -1,14 +1,11 @@
 -- What a datagram of neither host leaves unchanged (RFC 1350, section 4).
 use Rattle.std.specs.Prelude.{◌≡◌, ◌≢◌, ℕ, Bool, true, List, slice_get, Some}
-use Rattle.tftp_ends.specs.End.{is_client}
-use Rattle.tftp_rules.specs.Hosts.{host_of}
-use Rattle.tftp_rules.specs.Machine.{Endpoint, At_server, Elsewhere}
+use Rattle.tftp_player.specs.Common.{is_client, host_of, At_server, Elsewhere, Stray, Report}
+use Rattle.tftp_player.specs.Common.{Endpoint}
 use Rattle.tftp_player.specs.World.{WorldState, WorldEnd, end_record}
 use Rattle.tftp_player.specs.WorldKept.{Refines}
 use Rattle.tftp_player.specs.WorldSafety.{IsIn, HasPeer}
 use Rattle.tftp_player.specs.WorldSteps.{WorldStep}
-use Rattle.tftp_player.specs.declared.event.Event.TheVariants.{Stray}
-use Rattle.tftp_player.specs.declared.report.Report.{Report}
 
 -- no stranger is the peer of the end
 abbrev pub HasNoStranger : WorldEnd → Type 0

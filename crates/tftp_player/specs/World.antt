@@ -5,23 +5,13 @@ use Rattle.std.specs.BTreeMap.{is_at}
 use Rattle.std.specs.Cmp.Lexicographic.{slice_cmp}
 use Rattle.std.specs.Map.{lookup}
 use Rattle.std.specs.Ordering.{nat_cmp}
-use Rattle.tftp_wire.specs.declared.mode.Mode.{Mode}
+use Rattle.tftp_player.specs.Common.{Mode, Config, Files, wire_text, Holding, Outcome, Record, Side}
+use Rattle.tftp_player.specs.Common.{is_sender, is_client, outcome_of, Turn, Reply, server_ip}
+use Rattle.tftp_player.specs.Common.{client_ip, OpenEnd, end_after, EndView, Datagram, Report}
+use Rattle.tftp_player.specs.Common.{Endpoint}
 use Rattle.tftp_negotiate.specs.declared.limits.Limits.{Limits}
-use Rattle.tftp_server.specs.declared.config.Config.{Config}
-use Rattle.tftp_file.specs.declared.files.Files.{Files}
-use Rattle.tftp_file.specs.Netascii.{wire_text}
-use Rattle.tftp_file.specs.Sink.{Holding}
-use Rattle.tftp_ends.specs.declared.outcome.Outcome.{Outcome}
-use Rattle.tftp_ends.specs.declared.record.Record.{Record}
-use Rattle.tftp_ends.specs.declared.side.Side.{Side}
-use Rattle.tftp_ends.specs.End.{is_sender, is_client, outcome_of, record_of}
-use Rattle.tftp_ends.specs.Step.{Turn, Reply}
-use Rattle.tftp_rules.specs.Hosts.{server_ip, client_ip}
-use Rattle.tftp_rules.specs.Machine.{Endpoint}
-use Rattle.tftp_rules.specs.OpenEnds.{OpenEnd, end_after, text_of}
-use Rattle.tftp_rules.specs.Shows.{EndView}
-use Rattle.tftp_player.specs.declared.datagram.Datagram.{Datagram}
-use Rattle.tftp_player.specs.declared.report.Report.{Report}
+use Rattle.tftp_ends.specs.End.{record_of}
+use Rattle.tftp_rules.specs.OpenEnds.{text_of}
 
 -- a file of the server: its path and its bytes
 abbrev pub StoredFile : Type 0

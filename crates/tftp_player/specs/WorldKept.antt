@@ -1,27 +1,22 @@
 -- The invariant of every world, which makes it safe.
-use Rattle.std.specs.Prelude.{◌≡◌, ◌≢◌, ℕ, ◌+◌, ◌⊎◌, Bool, true, false, List, map, slice_get}
-use Rattle.std.specs.Prelude.{Some, None, Ok}
+use Rattle.std.specs.Prelude.{◌≡◌, ◌≢◌, ℕ, ◌+◌, ◌⊎◌, Bool, true, false, List, map, slice_get, Some}
+use Rattle.std.specs.Prelude.{None, Ok}
 use Rattle.std.specs.List.{Contains}
+use Rattle.tftp_player.specs.Common.{Request, Spells, IsBlockSize, wire_text, path_of_name}
+use Rattle.tftp_player.specs.Common.{is_sender, is_client, outcome_of, host_of, Elsewhere, OpenEnd}
+use Rattle.tftp_player.specs.Common.{EndView, requested, Datagram, Endpoint}
 use Rattle.tftp_wire.specs.declared.packet.Packet.{Packet as WirePacket}
-use Rattle.tftp_wire.specs.declared.packet.Request.{Request}
-use Rattle.tftp_wire.specs.Spelling.{Spells}
-use Rattle.tftp_negotiate.specs.Ranges.{IsBlockSize}
-use Rattle.tftp_file.specs.Netascii.{wire_text}
-use Rattle.tftp_file.specs.Path.{path_of_name}
-use Rattle.tftp_ends.specs.End.{is_sender, is_client, outcome_of}
 use Rattle.tftp_rules.specs.EndKept.{EndKept}
-use Rattle.tftp_rules.specs.Hosts.{host_of, two_hosts}
-use Rattle.tftp_rules.specs.Machine.{Endpoint, Elsewhere, Message}
-use Rattle.tftp_rules.specs.OpenEnds.{OpenEnd}
+use Rattle.tftp_rules.specs.Hosts.{two_hosts}
+use Rattle.tftp_rules.specs.Machine.{Message}
 use Rattle.tftp_rules.specs.Rules.{Rule, message}
 use Rattle.tftp_rules.specs.Said.{said}
-use Rattle.tftp_rules.specs.Shows.{EndView, IsShownAt, IsShown, IsShownWithin, requested}
+use Rattle.tftp_rules.specs.Shows.{IsShownAt, IsShown, IsShownWithin}
 use Rattle.tftp_player.specs.World.{WorldState, ClosedEnd, WorldEnd, Open_end, Closed_end}
 use Rattle.tftp_player.specs.World.{end_record, end_address, end_path, end_stored, file_at}
 use Rattle.tftp_player.specs.World.{datagram, view_of_end, end_wire, end_mode, end_file}
 use Rattle.tftp_player.specs.World.{end_request, is_closed}
 use Rattle.tftp_player.specs.WorldSafety.{HasRequested}
-use Rattle.tftp_player.specs.declared.datagram.Datagram.{Datagram}
 
 -- what holds of an open end in its world
 pub record IsOpenIn (w : WorldState) (x : OpenEnd) : Type 0 where

@@ -1,14 +1,10 @@
 -- Every run of a world.
 use Rattle.std.specs.Prelude.{◌≡◌, ℕ, Bool, false, List, [], ◌∷◌}
-use Rattle.tftp_server.specs.declared.config.Config.{Config}
-use Rattle.tftp_negotiate.specs.Ranges.{IsBlockSize}
+use Rattle.tftp_player.specs.Common.{Config, IsBlockSize, Event, Stray, Report}
 use Rattle.tftp_player.specs.World.{WorldState, StoredFile, new_world}
 use Rattle.tftp_player.specs.WorldSteps.{WorldStep}
 use Rattle.tftp_player.specs.WorldSafety.{IsSafe, HasPeersAtHome}
 use Rattle.tftp_player.specs.WorldKept.{Refines, RefinesWithin}
-use Rattle.tftp_player.specs.declared.event.Event.{Event}
-use Rattle.tftp_player.specs.declared.event.Event.TheVariants.{Stray}
-use Rattle.tftp_player.specs.declared.report.Report.{Report}
 
 -- the events happened one after another; a refused event changes nothing and is not listed
 abbrev pub PlaysAll : WorldState → List Event → WorldState → Type 0

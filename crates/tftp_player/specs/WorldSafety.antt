@@ -2,15 +2,10 @@
 use Rattle.std.specs.Prelude.{◌≡◌, ◌≢◌, ℕ, ◌+◌, Bool, true, false, List, length, slice_get, Some}
 use Rattle.std.specs.Prelude.{Ok}
 use Rattle.std.specs.List.{Contains}
-use Rattle.tftp_wire.specs.Spelling.{Spells}
-use Rattle.tftp_wire.specs.declared.packet.Request.{Request}
-use Rattle.tftp_file.specs.Path.{path_of_name}
-use Rattle.tftp_ends.specs.End.{is_sender, is_client}
-use Rattle.tftp_ends.specs.declared.side.Side.{Side}
-use Rattle.tftp_rules.specs.Hosts.{host_of, request_port}
-use Rattle.tftp_rules.specs.Machine.{Endpoint, At_server, Elsewhere}
+use Rattle.tftp_player.specs.Common.{Spells, Request, path_of_name, is_sender, is_client, Side}
+use Rattle.tftp_player.specs.Common.{host_of, request_port, At_server, Elsewhere, requested}
+use Rattle.tftp_player.specs.Common.{Endpoint}
 use Rattle.tftp_rules.specs.Safety.{SafetyView, AreSafe}
-use Rattle.tftp_rules.specs.Shows.{requested}
 use Rattle.tftp_player.specs.World.{WorldState, WorldEnd, ip_of, end_record, end_address, end_mode}
 use Rattle.tftp_player.specs.World.{end_path, end_file, end_stored, end_committed, end_request}
 use Rattle.tftp_player.specs.World.{file_at, datagram, is_closed}

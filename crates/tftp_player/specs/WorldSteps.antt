@@ -2,35 +2,25 @@
 use Rattle.std.specs.Prelude.{ℕ, ◌≡◌, ◌≢◌, ◌+◌, ◌<◌, ◌≤◌, Bool, true, false, not, if◌then◌else◌}
 use Rattle.std.specs.Prelude.{List, [], ◌∷◌, length, slice_get, slice_set, Option, Some, None, ⊤}
 use Rattle.std.specs.Prelude.{◌⊎◌, ◌&&◌}
-use Rattle.tftp_wire.specs.declared.packet.Packet.{Packet}
+use Rattle.tftp_player.specs.Common.{Packet, Files, wire_text, memory_source, Holding, EndState}
+use Rattle.tftp_player.specs.Common.{is_sender, is_client, Decodes, Turn, timeout_turn, error_bytes}
+use Rattle.tftp_player.specs.Common.{host_of, request_port, Elsewhere, OpenEnd, files_of, end_after}
+use Rattle.tftp_player.specs.Common.{Service, Silent, Refused, Sends, Takes, Datagram, Event, Get}
+use Rattle.tftp_player.specs.Common.{Put, Deliver, Timeout, Stray, Report, WorldFault}
+use Rattle.tftp_player.specs.Common.{NoSuchDatagram, NoSuchEnd, NoPort, BadRequest, Memory}
+use Rattle.tftp_player.specs.Common.{Endpoint}
 use Rattle.tftp_file.specs.declared.fault.StoreFault.{StoreFault}
 use Rattle.tftp_file.specs.declared.fault.StoreFault.TheVariants as faults
-use Rattle.tftp_file.specs.declared.files.Files.{Files}
-use Rattle.tftp_file.specs.Netascii.{wire_text}
-use Rattle.tftp_file.specs.Memory.{memory_source}
-use Rattle.tftp_file.specs.Sink.{Holding, SinkMeaning}
-use Rattle.tftp_ends.specs.End.{EndState, is_sender, is_client}
-use Rattle.tftp_ends.specs.Action.{Decodes}
-use Rattle.tftp_ends.specs.Step.{Turn, DatagramStep, timeout_turn, error_bytes}
-use Rattle.tftp_rules.specs.Hosts.{host_of, request_port}
-use Rattle.tftp_rules.specs.Machine.{Endpoint, Elsewhere}
-use Rattle.tftp_rules.specs.OpenEnds.{OpenEnd, files_of, end_after}
-use Rattle.tftp_player.specs.World.{StoredFile, file_at, in_the_way, ClosedEnd, WorldEnd}
-use Rattle.tftp_player.specs.World.{Open_end, Closed_end, end_address, WorldState, next_port}
-use Rattle.tftp_player.specs.World.{datagram, has_committed, world_after}
-use Rattle.tftp_player.specs.World.{report_of, no_report, opened_in, said_in, sent_report}
+use Rattle.tftp_file.specs.Sink.{SinkMeaning}
+use Rattle.tftp_ends.specs.Step.{DatagramStep}
+use Rattle.tftp_player.specs.World.{StoredFile, file_at, in_the_way, ClosedEnd, WorldEnd, Open_end}
+use Rattle.tftp_player.specs.World.{Closed_end, end_address, WorldState, next_port, datagram}
+use Rattle.tftp_player.specs.World.{has_committed, world_after, report_of, no_report, opened_in}
+use Rattle.tftp_player.specs.World.{said_in, sent_report}
 use Rattle.tftp_player.specs.Openings.{reading_client, writing_client, MayGet, MayPut, sending_end}
 use Rattle.tftp_player.specs.Openings.{receiving_end}
-use Rattle.tftp_server.specs.Port.{Service, Silent, Refused, Sends, Takes}
 use Rattle.tftp_player.specs.Requests.{IsRepeated, service}
-use Rattle.tftp_player.specs.declared.datagram.Datagram.{Datagram}
-use Rattle.tftp_player.specs.declared.event.Event.{Event}
-use Rattle.tftp_player.specs.declared.event.Event.TheVariants.{Get, Put, Deliver, Timeout}
-use Rattle.tftp_player.specs.declared.event.Event.TheVariants.{RefuseStore, Stray}
-use Rattle.tftp_player.specs.declared.report.Report.{Report}
-use Rattle.tftp_player.specs.declared.fault.WorldFault.{WorldFault}
-use Rattle.tftp_player.specs.declared.fault.WorldFault.TheVariants.{NoSuchDatagram, NoSuchEnd}
-use Rattle.tftp_player.specs.declared.fault.WorldFault.TheVariants.{NoPort, BadRequest, Memory}
+use Rattle.tftp_player.specs.declared.event.Event.TheVariants.{RefuseStore}
 
 -- an append is refused only if it is set to be, or out of memory
 abbrev pub may_refuse_append : Holding → List ℕ → StoreFault → Type 0
@@ -114,14 +104,19 @@ ServiceStep (Sends path mode length agreed) old from bytes report new =
 ServiceStep (Takes path mode agreed) old from bytes report new =
     OpeningStep old (receiving_end old from bytes mode path agreed) report new
 
+-- the step of the end x of a world at this datagram
+abbrev pub StepAt : WorldState → OpenEnd → Endpoint → List ℕ → Turn → Files (List ℕ) Holding
+    → Type 0
+StepAt w x from bytes turn held =
+    EndStep (is_client x.state.role.side) (in_the_way w.overwrite (file_at w.files x.path))
+    from bytes x.state (files_of x) turn held
+
 -- a datagram arrived at an open end
 pub record OnDatagram (old : WorldState) (k : ℕ) (x : OpenEnd) (from : Endpoint) (bytes : List ℕ)
     (report : Report) (new : WorldState) : Type 0 where
   pub turn : Turn
   pub held : Files (List ℕ) Holding
-  pub steps : EndStep (is_client x.state.role.side)
-      (in_the_way old.overwrite (file_at old.files x.path))
-      from bytes x.state (files_of x) turn held
+  pub steps : StepAt old x from bytes turn held
   pub turns : Turns old k x turn held report new
 
 -- the effect of a datagram at its destination

@@ -1,8 +1,7 @@
 -- The lemmas that are the law.
 use Rattle.tftp_player.proofs.AnsweringWitness.{read_recovers, write_recovers}
-use Rattle.tftp_player.proofs.RecoveringReads.{reads_recover}
+use Rattle.tftp_player.proofs.RecoveringAnswers.{reads_recover, writes_recover}
 use Rattle.tftp_player.proofs.RecoveringRuns.{transfers_recover}
-use Rattle.tftp_player.proofs.RecoveringWrites.{writes_recover}
 use Rattle.tftp_player.proofs.RecoveringWitness.{oack_recovers, data_recovers, ack_recovers}
 use Rattle.tftp_player.proofs.laws.a_transfer_recovers.Goals as goal
 

@@ -1,9 +1,6 @@
 -- Two words draw an event, and none is drawn if no end was opened.
-use Rattle.tftp_player.proofs.Common.{common_steps, ℕ, ◌≡◌, ◌≤◌, length, ap, ◌∙◌, arith, rules}
-use Rattle.std.proofs.Common.{◌%◌}
-use Rattle.rand_pcg.specs.Lcg.{Lcg}
+use Rattle.tftp_player.proofs.Common.{common_steps, ℕ, ◌≡◌, ◌≤◌, length, ap, ◌∙◌, arith, rules, ◌%◌, Lcg, drawn}
 use Rattle.rand_pcg.specs.Pcg.{pcg32}
-use Rattle.tftp_player.specs.Draw.{drawn}
 use Rattle.tftp_player.proofs.SentLemmas.{draws_none, draws_timeout, no_words}
 use Rattle.tftp_player.proofs.random.draw.Goals as goal
 

@@ -1,6 +1,5 @@
 -- The datagram that the end lends fits the reserved capacity, and a waiting client agrees to no larger block.
-use Rattle.tftp_player.proofs.Common.{length, sym, subst, ap, ◌∙◌, arith, EndState, answer_room}
-use Rattle.tftp_player.specs.Room.{AgreesWithin}
+use Rattle.tftp_player.proofs.Common.{length, sym, subst, ap, ◌∙◌, arith, EndState, answer_room, AgreesWithin}
 use Rattle.tftp_player.proofs.RoomLemmas.{answer_short, step_agrees}
 use Rattle.tftp_player.proofs.client.Client.on_datagram.Goals as goal
 use Rattle.tftp_player.proofs.client.Client.on_datagram.Goals.{in-Ok-handle_datagram, in-Err-Memory}

@@ -1,7 +1,6 @@
 -- What the request port answers is what it does in the world, and an end that opens is recorded.
-use Rattle.tftp_player.proofs.Common.{◌∙◌, [], ◌∷◌, ◌++◌, List, Option, None, ap, sym, subst, Packet, Decodes}
-use Rattle.tftp_player.proofs.Common.{request_port, Endpoint, EndsAsk, served_end, IsRepeated, open_transfers}
-use Rattle.tftp_player.proofs.Common.{PlayedServer, WorldEnd, end_address}
+use Rattle.tftp_player.proofs.Common.{◌∙◌, [], ◌∷◌, ◌++◌, List, ap, Endpoint, served_end, PlayedServer, WorldEnd}
+use Rattle.tftp_player.proofs.Common.{end_address}
 use Rattle.tftp_player.proofs.AskingLemmas.{not_opened_asks, opened_kept, opened_asks}
 use Rattle.tftp_player.proofs.HostEnds.{pushed_so}
 use Rattle.tftp_player.proofs.Standing.{standing_address}
@@ -9,60 +8,32 @@ use Rattle.tftp_player.proofs.ends.Ends.ask.Goals as goal
 
 pub returns-in_default-opened-clause-asks : goal.returns-in_default-opened-clause-asks
 returns-in_default-opened-clause-asks c =
-    subst
-    (λ (v : PlayedServer).
-    EndsAsk c.args.from c.args.bytes.now c.args.self.now.server v c.args.self.now.players.items
-    c.reserve.new.self.items
-    (record { from = request_port; to = c.in-Ok-ask_server.answer.to; bytes = c.from-bytes.result; closed = None }))
-    (sym c.ask_server.ensures.server)
-    (not_opened_asks c.args.from c.args.bytes.now c.args.self.now.server c.args.self.now.players.items
-    c.occupancy_of-occupancy.result c.in-Some.port c.in-Some.ensures.some c.in-Some.ensures.fits
-    (c.occupancy_of-occupancy.ensures.count ∙ ap open_transfers (c.deref.ensures.value ∙ c.in-Ok.ensures.items))
-    (subst
-    (λ (es : List WorldEnd). (decoded : Option Packet) × Decodes c.args.bytes.now decoded
-    × IsRepeated c.occupancy_of-occupancy.result.is_repeated c.args.from decoded es)
-    (c.deref.ensures.value ∙ c.in-Ok.ensures.items) c.occupancy_of-occupancy.ensures.repeated)
-    c.in-Ok-ask_server.answer c.in-Ok-ask_server.ensures.answers
-    c.reserve.new.self.items c.from-bytes.result c.in_default-opened.is c.in-Ok.ensures.items c.from-bytes.ensures)
+    not_opened_asks c.args.from c.args.bytes.now c.args.self.now.server c.args.self.now.players.items
+    c.occupancy_of-occupancy.result c.in-Some.port c.in-Some.ensures.some c.in-Some.ensures.fits _
+    (c.deref.ensures.value ∙ c.in-Ok.ensures.items) c.occupancy_of-occupancy.ensures.count
+    c.occupancy_of-occupancy.ensures.repeated c.in-Ok-ask_server.answer c.in-Ok-ask_server.ensures.answers
+    c.ask_server.new.server c.reserve.new.self.items c.from-bytes.result c.ask_server.ensures.server
+    c.in_default-opened.is c.in-Ok.ensures.items c.from-bytes.ensures
 
 pub of_server-player-requires : goal.of_server-player-requires
 of_server-player-requires c =
     opened_kept c.args.from c.args.bytes.now c.args.self.now.server c.args.self.now.players.items
-    c.occupancy_of-occupancy.result c.in-Some.port c.in-Some.ensures.some c.in-Some.ensures.fits
-    (c.occupancy_of-occupancy.ensures.count ∙ ap open_transfers (c.deref.ensures.value ∙ c.in-Ok.ensures.items))
-    (subst
-    (λ (es : List WorldEnd). (decoded : Option Packet) × Decodes c.args.bytes.now decoded
-    × IsRepeated c.occupancy_of-occupancy.result.is_repeated c.args.from decoded es)
-    (c.deref.ensures.value ∙ c.in-Ok.ensures.items) c.occupancy_of-occupancy.ensures.repeated)
-    c.in-Ok-ask_server.answer c.in-Ok-ask_server.ensures.answers
+    c.occupancy_of-occupancy.result c.in-Some.port c.in-Some.ensures.some c.in-Some.ensures.fits _
+    (c.deref.ensures.value ∙ c.in-Ok.ensures.items) c.occupancy_of-occupancy.ensures.count
+    c.occupancy_of-occupancy.ensures.repeated c.in-Ok-ask_server.answer c.in-Ok-ask_server.ensures.answers
     c.in-Some-opened.served c.in-Some-opened.is
 
 pub returns-clause-asks : goal.returns-clause-asks
 returns-clause-asks c =
-    subst
-    (λ (v : PlayedServer).
-    EndsAsk c.args.from c.args.bytes.now c.args.self.now.server v c.args.self.now.players.items
-    c.push_reserved-2.new.self.items
-    (record {
-      from = c.server_at.result;
-      to = c.in-Ok-ask_server.answer.to;
-      bytes = c.from-bytes.result;
-      closed = None;
-    }))
-    (sym c.ask_server.ensures.server)
-    (opened_asks c.args.from c.args.bytes.now c.args.self.now.server c.args.self.now.players.items
-    c.occupancy_of-occupancy.result c.in-Some.port c.in-Some.ensures.some c.in-Some.ensures.fits
-    (c.occupancy_of-occupancy.ensures.count ∙ ap open_transfers (c.deref.ensures.value ∙ c.in-Ok.ensures.items))
-    (subst
-    (λ (es : List WorldEnd). (decoded : Option Packet) × Decodes c.args.bytes.now decoded
-    × IsRepeated c.occupancy_of-occupancy.result.is_repeated c.args.from decoded es)
-    (c.deref.ensures.value ∙ c.in-Ok.ensures.items) c.occupancy_of-occupancy.ensures.repeated)
-    c.in-Ok-ask_server.answer c.in-Ok-ask_server.ensures.answers
-    c.in-Some-opened.served c.server_at.result c.push_reserved-2.new.self.items c.from-bytes.result
-    c.in-Some-opened.is c.server_at.ensures
+    opened_asks c.args.from c.args.bytes.now c.args.self.now.server c.args.self.now.players.items
+    c.occupancy_of-occupancy.result c.in-Some.port c.in-Some.ensures.some c.in-Some.ensures.fits _
+    (c.deref.ensures.value ∙ c.in-Ok.ensures.items) c.occupancy_of-occupancy.ensures.count
+    c.occupancy_of-occupancy.ensures.repeated c.in-Ok-ask_server.answer c.in-Ok-ask_server.ensures.answers
+    c.in-Some-opened.served c.server_at.result c.ask_server.new.server c.push_reserved-2.new.self.items
+    c.from-bytes.result c.ask_server.ensures.server c.in-Some-opened.is c.server_at.ensures
     (c.push_reserved-2.ensures.items
     ∙ (ap (λ (es : List WorldEnd). es ++ c.of_server-player.result ∷ []) c.in-Ok.ensures.items
-    ∙ ap (λ (y : WorldEnd). c.args.self.now.players.items ++ y ∷ []) c.of_server-player.ensures)) c.from-bytes.ensures)
+    ∙ ap (λ (y : WorldEnd). c.args.self.now.players.items ++ y ∷ []) c.of_server-player.ensures)) c.from-bytes.ensures
 
 pub returns-clause-consistent : goal.returns-clause-consistent
 returns-clause-consistent c =

@@ -1,6 +1,5 @@
 -- A datagram arrives at the request port, at an end, or nowhere.
-use Rattle.tftp_player.proofs.Common.{refl, rules}
-use Rattle.std.proofs.lemmas.Result.{IfOk-weaker}
+use Rattle.tftp_player.proofs.Common.{refl, rules, IfOk-weaker}
 use Rattle.tftp_player.proofs.ArrivalLemmas.{step_arrives, nobody_arrives}
 use Rattle.tftp_player.proofs.ends.Ends.take.Goals as goal
 

@@ -1,6 +1,5 @@
 -- The first end that repeats the request is one of them.
-use Rattle.tftp_player.proofs.Common.{sym, arith, rules, true≢false, slice_get_within}
-use Rattle.tftp_wire.specs.Borrowed.{owned}
+use Rattle.tftp_player.proofs.Common.{sym, arith, rules, true≢false, slice_get_within, owned}
 use Rattle.tftp_player.proofs.AskingLemmas.{none_before, none_repeats}
 use Rattle.tftp_player.proofs.HostEnds.{list_get}
 use Rattle.tftp_player.proofs.UnansweredLemmas.{any_at}

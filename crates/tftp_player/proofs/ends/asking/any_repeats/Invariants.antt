@@ -1,6 +1,5 @@
 -- No end before this one repeats the request.
-use Rattle.tftp_player.proofs.Common.{◌≡◌, ℕ, ◌<◌, Some, slice_get, Repeats, WorldEnd}
-use Rattle.tftp_wire.specs.Borrowed.{owned}
+use Rattle.tftp_player.proofs.Common.{◌≡◌, ℕ, ◌<◌, Some, slice_get, Repeats, WorldEnd, owned}
 use Rattle.tftp_player.proofs.ends.asking.any_repeats.Given as goal
 
 abbrev pub invariant-loop-player : goal.invariant-loop-player

@@ -1,7 +1,6 @@
 -- The server carries its decision out, and the end that opens is taken from it.
-use Rattle.tftp_player.proofs.Common.{◌∙◌, Option, Some, refl, sym, ap, Stored, PlayedServer}
-use Rattle.tftp_player.specs.Answer.{released_end}
-use Rattle.tftp_player.specs.ServerEnd.{ServerTransfer}
+use Rattle.tftp_player.proofs.Common.{◌∙◌, Option, Some, refl, sym, ap, Stored, PlayedServer, released_end}
+use Rattle.tftp_player.proofs.Common.{ServerTransfer}
 use Rattle.tftp_player.proofs.AskingLemmas.{server_answers, server_returns}
 use Rattle.tftp_player.proofs.ServerLemmas.{released}
 use Rattle.tftp_player.proofs.ends.asking.ask_server.Goals as goal

@@ -1,6 +1,5 @@
 -- A stray arrives like a datagram, and is not added to the list.
-use Rattle.tftp_player.proofs.Common.{List, ℕ, subst, Delivery}
-use Rattle.std.proofs.lemmas.Result.{IfOk-weaker}
+use Rattle.tftp_player.proofs.Common.{List, ℕ, subst, Delivery, IfOk-weaker}
 use Rattle.tftp_player.proofs.simulation.Simulation.stray.Goals as goal
 
 pub returns-clause-steps : goal.returns-clause-steps

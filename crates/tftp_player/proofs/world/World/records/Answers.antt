@@ -1,6 +1,5 @@
 -- A world is what was played, and so it is safe.
-use Rattle.tftp_player.proofs.Common.{subst, IsHome, WasPlayed, IsSafe}
-use Rattle.tftp_player.specs.PlayedWorld.{PlayedWorld}
+use Rattle.tftp_player.proofs.Common.{subst, IsHome, WasPlayed, IsSafe, PlayedWorld}
 use Rattle.tftp_player.proofs.PlayedKeeps.{home_of}
 use Rattle.tftp_player.proofs.WorldSafe.{kept_is_safe}
 use Rattle.tftp_player.proofs.world.World.records.Goals as goal

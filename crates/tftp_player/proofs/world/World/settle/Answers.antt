@@ -1,7 +1,6 @@
 -- A settling is one delivery after another, each of which leaves the world safe.
-use Rattle.tftp_player.proofs.Common.{◌∙◌, refl, rules, subst, IsHome, WasPlayed, IsSafe}
+use Rattle.tftp_player.proofs.Common.{◌∙◌, refl, rules, subst, IsHome, WasPlayed, IsSafe, PlayedWorld}
 use Rattle.std.proofs.Math.Bool.{or-false}
-use Rattle.tftp_player.specs.PlayedWorld.{PlayedWorld}
 use Rattle.tftp_player.proofs.PlayedKeeps.{delivers_on, home_of}
 use Rattle.tftp_player.proofs.WorldSafe.{kept_is_safe}
 use Rattle.tftp_player.proofs.world.World.settle.Goals as goal
