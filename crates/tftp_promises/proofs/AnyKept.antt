@@ -5,9 +5,9 @@ use Rattle.tftp_promises.proofs.Common.{subst, inl, StoreMeaning, inr, SinkMeani
 use Rattle.tftp_promises.proofs.Common.{EndState, Files, ◌≢◌, length, slice_get, TransferState, joined, ClientOf}
 use Rattle.tftp_promises.proofs.Common.{OpenEnd, is_sender, endpoint, same_Some, IsStranger, open_view, Mode, moved_in}
 use Rattle.tftp_promises.proofs.Common.{EndView, not, IsPrefixOf, is_client, all_of, moved_at, is_complete, Role}
-use Rattle.tftp_promises.proofs.Common.{IsAmong, opened_at, Elsewhere, client_end, HasOpened, ArePortsFresh, Phase}
-use Rattle.tftp_promises.proofs.Common.{ServesClient, ProgramEnd, IsEnd, wire_text, transfer_end, KeepAnyFiles, IsOurs}
-use Rattle.tftp_promises.proofs.Common.{has_of, ViewsEnd, record_of}
+use Rattle.tftp_promises.proofs.Common.{IsAmong, Elsewhere, client_end, HasOpened, ArePortsFresh, Phase, ProgramEnd}
+use Rattle.tftp_promises.proofs.Common.{IsEnd, wire_text, transfer_end, KeepAnyFiles, IsOurs, has_of, ViewsEnd}
+use Rattle.tftp_promises.proofs.Common.{record_of, Moved}
 use Rattle.tftp_rules.specs.OpenEnds.{received_text}
 use Rattle.tftp_rules.specs.Safety.{IsCompleteAt, IsSenderAt}
 use Rattle.tftp_rules.specs.ViewSafety.{IsSafeViews, safety_view}
@@ -15,8 +15,8 @@ use Rattle.tftp_rules.proofs.ViewSafe.{shown_safe}
 use Rattle.tftp_promises.specs.AnyFiles.{HasGot, HasPut, peer_of, safety_of}
 use Rattle.tftp_promises.proofs.ClientTraces.{run_role}
 use Rattle.tftp_promises.proofs.ClientsServed.{one_there, served_by}
-use Rattle.tftp_promises.proofs.Invariant.{GaveSo, HasFile, HasStored, IsKept, IsOpened, IsViewed, SendsText, TookSo}
-use Rattle.tftp_promises.proofs.Invariant.{length_of, client_kept}
+use Rattle.tftp_promises.proofs.Invariant.{AnySink, ClientGiven, FileSo, GaveSo, IsGiven, IsTaken, IsKept, IsViewed}
+use Rattle.tftp_promises.proofs.Invariant.{SendsText, TookSo, length_of, client_kept}
 use Rattle.tftp_promises.proofs.KeptViews.{views_end, view_there}
 use Rattle.tftp_promises.proofs.Places.{strangers_elsewhere}
 use Rattle.tftp_promises.proofs.Texts.{begin_each_other, begins_unpadded, pad_length, pad_to}
@@ -26,6 +26,12 @@ use Rattle.tftp_promises.proofs.MovedInAll.{was_opened, was_given, was_taken, ha
 whole_text : (e : EndState) (stored : List ℕ) (phase : Phase) → e.position.phase ≡ phase →
     is_complete phase ≡ true → received_text e stored ≡ wire_text e.role.mode stored
 whole_text e stored phase is complete = search rules
+
+-- what moved at an end whose file is known
+file_moves : {S K : Type 0} (Given : S → OpenEnd → Moved → Type 0) (Taken : K → OpenEnd → Moved → Type 0)
+    (x : OpenEnd) (moved : Moved) (files : Files S K) → FileSo Given Taken files x moved →
+    (is_sender x.state.role.side ≡ true → GaveSo x moved) × (is_sender x.state.role.side ≡ false → TookSo x moved)
+file_moves Given Taken x moved files h = search rules
 
 module _ {S F D G K : Type 0} {stores : StoreMeaning S D} {sources : SourceMeaning F} {inputs : SourceMeaning G}
     {outputs : SinkMeaning K} (programs : Programs stores sources inputs outputs) (fresh : ArePortsFresh programs)
@@ -50,55 +56,39 @@ module _ {S F D G K : Type 0} {stores : StoreMeaning S D} {sources : SourceMeani
     gave : is_sender end.state.role.side ≡ true → GaveSo end x.moved
     took : is_sender end.state.role.side ≡ false → TookSo end x.moved
 
-  module _ (pad : ℕ) (client : Client) (x : OpenEnd) where
-    client_stands : (files : Files G K) → HasFile programs pad client x files (moved_in client.runs) →
-        (is_sender x.state.role.side ≡ true → x.text ≡ pad_to pad x.state.role.length (moved_in client.runs).bytes)
-        × (is_sender x.state.role.side ≡ true → GaveSo x (moved_in client.runs))
-        × (is_sender x.state.role.side ≡ false → TookSo x (moved_in client.runs))
-    client_stands files has = search rules
-
-  module _ (pad : ℕ) (a : Endpoint) (x : OpenEnd) (at : x.address ≡ a) where
-    measured : IsOpened programs programs.server.run x →
-        length_of (opened_at programs x.address programs.server.run) ≡ x.state.role.length
-    measured h = ap length_of h.opened ∙ ap (λ (r : Role). r.length) h.role
-
-    transfer_stands : (files : Files F D) → HasStored pad (all_of programs) x files →
-        (is_sender x.state.role.side ≡ true →
-        x.text ≡ pad_to pad x.state.role.length (moved_at programs a programs.server.run).bytes)
-        × (is_sender x.state.role.side ≡ true → GaveSo x (moved_at programs a programs.server.run))
-        × (is_sender x.state.role.side ≡ false → TookSo x (moved_at programs a programs.server.run))
-    transfer_stands files has = search rules
-
   -- each end stands among the views
   of_client : (pad k : ℕ) (client : Client) → slice_get programs.clients k ≡ Some client →
       StandsFor pad (client_end programs client)
   of_client pad k client found =
       let h = client_kept (kept pad) k client found in
-      let got = client_stands pad client h.end client.files h.has in
+      let moves = file_moves (ClientGiven programs client) AnySink h.end _ client.files h.has.file in
       record {
         end = h.end;
         address = h.address;
         state = h.state;
         viewed = h.viewed;
-        text = got.0;
-        gave = got.1;
-        took = got.2;
+        text = λ s. h.has.text s ∙ ap (λ (r : Role). pad_to pad r.length (moved_in client.runs).bytes) (sym h.has.role);
+        gave = moves.0;
+        took = moves.1;
       }
 
   of_transfer : (pad port : ℕ) (transfer : TransferState F D) (a : Endpoint) → HasOpened programs port transfer a →
       StandsFor pad (transfer_end programs transfer a)
   of_transfer pad port transfer a opened =
       let h = (kept pad).transfers port transfer a opened in
-      let got = transfer_stands pad a h.end h.address transfer.files h.has in
-      record {
+      let run = programs.server.run in
+      let moves = file_moves (IsGiven programs run) (IsTaken programs run) h.end _ transfer.files h.has.file in
+      let long = ap length_of h.has.opened.opened ∙ ap (λ (r : Role). r.length) h.has.opened.role in
+      subst (λ (b : Endpoint). StandsFor pad (transfer_end programs transfer b)) h.address (record {
         end = h.end;
-        address = h.address;
+        address = refl;
         state = h.state;
         viewed = h.viewed;
-        text = got.0;
-        gave = got.1;
-        took = got.2;
-      }
+        text = λ s. h.has.text s
+            ∙ ap (λ (n : ℕ). pad_to pad n (moved_at programs h.end.address programs.server.run).bytes) long;
+        gave = moves.0;
+        took = moves.1;
+      })
 
   stands : (pad : ℕ) (x : ProgramEnd) → IsEnd programs x → StandsFor pad x
   stands pad x (inl of) = subst (λ (z : ProgramEnd). StandsFor pad z) (sym of.3) (of_client pad of.0 of.1 of.2)
@@ -338,144 +328,97 @@ module _ {S F D G K : Type 0} {stores : StoreMeaning S D} {sources : SourceMeani
       let same = (safe 0).same_size (view 0 x s) (view 0 y t) (among 0 x s) (among 0 y t) peer peer_y in
       sym told.size ∙ (same ∙ told_y.size)
 
-  -- what a complete client was handed
+  -- what the end v sent is all that the receiver x has
+  record WholeOf (x v : ProgramEnd) : Type 0 where
+    sends : is_sender v.state.role.side ≡ true
+    mode : v.state.role.mode ≡ x.state.role.mode
+    text : wire_text x.state.role.mode x.moved.bytes ≡ v.moved.bytes
+    measured : length v.moved.bytes ≡ v.state.role.length
+
+  -- so it is if x is complete, and v is at its peer
+  whole_of : (x v : ProgramEnd) (is_x : IsEnd programs x) → is_sender x.state.role.side ≡ false →
+      is_complete x.state.position.phase ≡ true → IsEnd programs v → peer_of x ≡ Some v.address →
+      IsOurs programs v.address → WholeOf x v
+  whole_of x v is_x receives complete is_v peer ours =
+      let w = whole x is_x receives complete in
+      let there : w.0 ≡ v.address = same_Some w.0 v.address (sym w.1 ∙ peer) in
+      let y = w.2 (subst (λ (p : Endpoint). IsOurs programs p) (sym there) ours) in
+      subst (λ (z : ProgramEnd). WholeOf x z)
+      (one_there programs (kept 0) fresh y.0 v y.1.is_end is_v (y.1.address ∙ there)) (record {
+        sends = y.1.sends;
+        mode = y.1.mode;
+        text = sym (whole_text x.state x.moved.bytes x.state.position.phase refl complete) ∙ y.3;
+        measured = y.4;
+      })
+
+  -- a complete client
   module _ (k : ℕ) (client : Client) (found : slice_get programs.clients k ≡ Some client)
-      (receiver : is_sender client.first.role.side ≡ false)
       (complete : is_complete client.last.end.position.phase ≡ true) where
     abbrev its_end : ProgramEnd
     its_end = client_end programs client
 
-    its_role : client.last.end.role ≡ client.first.role
-    its_role = run_role client.runs
-
-    receives : is_sender client.last.end.role.side ≡ false
-    receives = ap (λ (r : Role). is_sender r.side) its_role ∙ receiver
-
     in_it : IsEnd programs its_end
     in_it = inl (k, client, found, refl)
 
-    its_side : is_client client.last.end.role.side ≡ true
-    its_side =
-        let h = client_kept (kept 0) k client found in
-        ap (λ (e : EndState). is_client e.role.side) (sym h.state) ∙ h.side
+    its_role : client.last.end.role ≡ client.first.role
+    its_role = run_role client.runs
 
-    -- its peer, and the transfer that serves it
-    got_from : (p : Endpoint) → peer_of its_end ≡ Some p → (y : ProgramEnd) →
-        SendsAt p client.last.end.role.mode y → has_of its_end ≡ y.moved.bytes →
-        length y.moved.bytes ≡ y.state.role.length → HasGot programs client
-    got_from p peer y at all long =
-        let s : ServesClient programs p client = served_by programs (kept 0) k client p found peer in
-        let z = transfer_end programs s.transfer p in
-        let same : y ≡ z =
-        one_there programs (kept 0) fresh y z at.is_end (inr (s.port, s.transfer, p, s.opened, refl)) at.address in
-        let sends : is_sender s.transfer.end.role.side ≡ true =
-        ap (λ (w : ProgramEnd). is_sender w.state.role.side) (sym same) ∙ at.sends in
-        let given = was_given programs (kept 0) s.port s.transfer p s.opened sends in
-        let measured : length (moved_at programs p programs.server.run).bytes ≡ s.transfer.end.role.length =
-        ap (λ (w : ProgramEnd). length w.moved.bytes) (sym same)
-        ∙ (long ∙ ap (λ (w : ProgramEnd). w.state.role.length) same) in
+    its_peer : (p : Endpoint) → peer_of its_end ≡ Some p → IsOurs programs p
+    its_peer p peer =
+        let h = client_kept (kept 0) k client found in
+        client_peer its_end p in_it (ap (λ (e : EndState). is_client e.role.side) (sym h.state) ∙ h.side) peer
+
+    -- what it was handed
+    has_got : is_sender client.first.role.side ≡ false → HasGot programs client
+    has_got receiver =
+        let receives = ap (λ (r : Role). is_sender r.side) its_role ∙ receiver in
+        let all = whole its_end in_it receives complete in
+        let s = served_by programs (kept 0) k client all.0 found all.1 in
+        let w =
+        whole_of its_end (transfer_end programs s.transfer all.0) in_it receives complete
+        (inr (s.port, s.transfer, all.0, s.opened, refl)) all.1 (its_peer all.0 all.1) in
+        let given = was_given programs (kept 0) s.port s.transfer all.0 s.opened w.sends in
         record {
-          peer = p;
+          peer = all.0;
           serves = s;
           given = given;
-          same_mode =
-              ap (λ (w : ProgramEnd). w.state.role.mode) (sym same)
-              ∙ (at.mode ∙ ap (λ (r : Role). r.mode) its_role);
-          sent =
-              ap (λ (r : Role). wire_text r.mode (moved_in client.runs).bytes) (sym its_role)
-              ∙ (sym (whole_text client.last.end (moved_in client.runs).bytes client.last.end.position.phase refl
-              complete)
-              ∙ (all ∙ ap (λ (w : ProgramEnd). w.moved.bytes) same));
-          no_more = given.since.whole measured;
-          measured = measured ∙ given.long;
+          same_mode = w.mode ∙ ap (λ (r : Role). r.mode) its_role;
+          sent = ap (λ (r : Role). wire_text r.mode (moved_in client.runs).bytes) (sym its_role) ∙ w.text;
+          no_more = given.since.whole w.measured;
+          measured = w.measured ∙ given.long;
           committed = has_committed its_end in_it receives complete;
         }
 
-    has_got : HasGot programs client
-    has_got =
-        let w = whole its_end in_it receives complete in
-        let its = w.2 (client_peer its_end w.0 in_it its_side w.1) in
-        got_from w.0 w.1 its.0 its.1 its.3 its.4
-
-  -- what a complete client sent
-  module _ (k : ℕ) (client : Client) (found : slice_get programs.clients k ≡ Some client)
-      (sender : is_sender client.first.role.side ≡ true)
-      (complete : is_complete client.last.end.position.phase ≡ true) where
-    abbrev the_end : ProgramEnd
-    the_end = client_end programs client
-
-    among_ends : IsEnd programs the_end
-    among_ends = inl (k, client, found, refl)
-
-    the_role : client.last.end.role ≡ client.first.role
-    the_role = run_role client.runs
-
-    sends : is_sender client.last.end.role.side ≡ true
-    sends = ap (λ (r : Role). is_sender r.side) the_role ∙ sender
-
-    module _ (p : Endpoint) (peer : peer_of the_end ≡ Some p) where
-      abbrev its_server : ServesClient programs p client
-      its_server = served_by programs (kept 0) k client p found peer
-
-      abbrev other_end : ProgramEnd
-      other_end = transfer_end programs its_server.transfer p
-
-      other_in : IsEnd programs other_end
-      other_in = inr (its_server.port, its_server.transfer, p, its_server.opened, refl)
-
-      other_receives : is_sender its_server.transfer.end.role.side ≡ false
-      other_receives = its_server.other ∙ ap not sends
-
-      -- the end that its peer has as its own peer is the client
-      put_to : is_complete its_server.transfer.end.position.phase ≡ true → (q : Endpoint) →
-          peer_of other_end ≡ Some q → (v : ProgramEnd) → SendsAt q its_server.transfer.end.role.mode v →
-          has_of other_end ≡ v.moved.bytes → length v.moved.bytes ≡ v.state.role.length → HasPut programs client
-      put_to done q back v at all long =
-          let q_is : q ≡ the_end.address = same_Some q the_end.address (sym back ∙ its_server.peer) in
-          let same : v ≡ the_end = one_there programs (kept 0) fresh v the_end at.is_end among_ends (at.address ∙ q_is) in
-          let mode : its_server.transfer.end.role.mode ≡ client.first.role.mode =
-          sym at.mode ∙ (ap (λ (w : ProgramEnd). w.state.role.mode) same ∙ ap (λ (r : Role). r.mode) the_role) in
-          let given = has_given programs (kept 0) k client found sender in
-          let measured : length (moved_in client.runs).bytes ≡ client.last.end.role.length =
-          ap (λ (w : ProgramEnd). length w.moved.bytes) (sym same)
-          ∙ (long ∙ ap (λ (w : ProgramEnd). w.state.role.length) same) in
-          record {
-            peer = p;
-            serves = its_server;
-            given = given;
-            taken = was_taken programs (kept 0) its_server.port its_server.transfer p its_server.opened other_receives;
-            same_mode = mode;
-            stored =
-                ap (λ (n : Mode). wire_text n (moved_at programs p programs.server.run).bytes) (sym mode)
-                ∙ (sym (whole_text its_server.transfer.end (moved_at programs p programs.server.run).bytes
-                its_server.transfer.end.position.phase refl done)
-                ∙ (all ∙ ap (λ (w : ProgramEnd). w.moved.bytes) same));
-            no_more = given.since.whole measured;
-            measured = measured ∙ ap (λ (r : Role). r.length) the_role;
-            complete = done;
-            committed = has_committed other_end other_in other_receives done;
-          }
-
-      put_by : (y : ProgramEnd) → CompletesAt p the_end.address y → HasPut programs client
-      put_by y at =
-          let same : y ≡ other_end = one_there programs (kept 0) fresh y other_end at.is_end other_in at.address in
-          let done : is_complete its_server.transfer.end.position.phase ≡ true =
-          ap (λ (w : ProgramEnd). is_complete w.state.position.phase) (sym same) ∙ at.complete in
-          let w = whole other_end other_in other_receives done in
-          let is_client_there : w.0 ≡ the_end.address =
-          same_Some w.0 the_end.address (sym w.1 ∙ its_server.peer) in
-          let ours : IsOurs programs w.0 = λ stranger. stranger.clients k client found (sym is_client_there) in
-          let its = w.2 ours in
-          put_to done w.0 w.1 its.0 its.1 its.3 its.4
-
-    has_put : HasPut programs client
-    has_put =
-        let h = client_kept (kept 0) k client found in
-        let side = ap (λ (e : EndState). is_client e.role.side) (sym h.state) ∙ h.side in
-        let last = last_sender the_end among_ends sends complete in
-        let ours = client_peer the_end last.0 among_ends side last.1 in
-        let y = last.2 ours in
-        put_by last.0 last.1 y.0 y.1
+    -- what it sent
+    has_put : is_sender client.first.role.side ≡ true → HasPut programs client
+    has_put sender =
+        let sends = ap (λ (r : Role). is_sender r.side) its_role ∙ sender in
+        let last = last_sender its_end in_it sends complete in
+        let s = served_by programs (kept 0) k client last.0 found last.1 in
+        let x = transfer_end programs s.transfer last.0 in
+        let is_x : IsEnd programs x = inr (s.port, s.transfer, last.0, s.opened, refl) in
+        let receives : is_sender s.transfer.end.role.side ≡ false = s.other ∙ ap not sends in
+        let y = last.2 (its_peer last.0 last.1) in
+        let done : is_complete s.transfer.end.position.phase ≡ true =
+        subst (λ (z : ProgramEnd). is_complete z.state.position.phase ≡ true)
+        (one_there programs (kept 0) fresh y.0 x y.1.is_end is_x y.1.address) y.1.complete in
+        let w =
+        whole_of x its_end is_x receives done in_it s.peer (λ stranger. stranger.clients k client found refl) in
+        let mode : s.transfer.end.role.mode ≡ client.first.role.mode =
+        sym w.mode ∙ ap (λ (r : Role). r.mode) its_role in
+        let given = has_given programs (kept 0) k client found sender in
+        record {
+          peer = last.0;
+          serves = s;
+          given = given;
+          taken = was_taken programs (kept 0) s.port s.transfer last.0 s.opened receives;
+          same_mode = mode;
+          stored = ap (λ (n : Mode). wire_text n (moved_at programs last.0 programs.server.run).bytes) (sym mode) ∙ w.text;
+          no_more = given.since.whole w.measured;
+          measured = w.measured ∙ ap (λ (r : Role). r.length) its_role;
+          complete = done;
+          committed = has_committed x is_x receives done;
+        }
 
   pub any_kept : KeepAnyFiles programs
   any_kept = record {
@@ -494,7 +437,7 @@ module _ {S F D G K : Type 0} {stores : StoreMeaning S D} {sources : SourceMeani
     opened = was_opened programs (kept 0);
     given = was_given programs (kept 0);
     taken = was_taken programs (kept 0);
-    got = has_got;
+    got = λ k client found receiver complete. has_got k client found complete receiver;
     gave = has_given programs (kept 0);
-    put = has_put;
+    put = λ k client found sender complete. has_put k client found complete sender;
   }

@@ -1,20 +1,102 @@
 -- What a client notes, step by step.
-use Rattle.tftp_promises.proofs.Common.{List, ℕ, ◌≡◌, rules, sym, Endpoint, refl, [], ◌∙◌, ap, SourceMeaning, Some}
-use Rattle.tftp_promises.proofs.Common.{subst, inl, inr, ◌∷◌, SinkMeaning, false, None, ◌++◌, EndState, ◌⊎◌, Contains}
-use Rattle.tftp_promises.proofs.Common.{Files, SocketEvent, Option, arith, Sent, outcome_of, Received, State, Reply}
-use Rattle.tftp_promises.proofs.Common.{Elapsed, timeout_turn, Receives_one, append_cancel_right, Outcome, ClientDoes}
-use Rattle.tftp_promises.proofs.Common.{Watched, Printed, Quiet, Act, answered, Answers, ClientOpens, common_steps}
-use Rattle.tftp_promises.proofs.Common.{Waits_until, Goes_on, ClientRun, Starts, begun, Times_out, acts_in}
-use Rattle.tftp_promises.proofs.Common.{HandlesReceived, Loses, is_some, To_read, Took, File_works, Prints_line}
-use Rattle.tftp_promises.proofs.Common.{Reads_clock, Said, ClientProgram, Elapses, To_write, Lost, Timed}
+use Rattle.tftp_promises.proofs.Common.{List, ℕ, ◌≡◌, rules, sym, Endpoint, refl, ◌∙◌, ap, SourceMeaning, Some, inl}
+use Rattle.tftp_promises.proofs.Common.{inr, ◌∷◌, SinkMeaning, false, None, ◌++◌, EndState, ◌⊎◌, Contains, Files}
+use Rattle.tftp_promises.proofs.Common.{SocketEvent, Option, arith, Sent, outcome_of, Received, State, Reply, Elapsed}
+use Rattle.tftp_promises.proofs.Common.{timeout_turn, Receives_one, append_cancel_right, Outcome, ClientDoes, Watched}
+use Rattle.tftp_promises.proofs.Common.{Quiet, Act, answered, Answers, ClientOpens, common_steps, Waits_until, Goes_on}
+use Rattle.tftp_promises.proofs.Common.{ClientRun, Starts, begun, Times_out, acts_in, HandlesReceived, Loses, is_some}
+use Rattle.tftp_promises.proofs.Common.{To_read, Took, File_works, Said, ClientProgram, Elapses, To_write, Lost, Timed}
 use Rattle.tftp_promises.proofs.Common.{AllByRecursion, Slept, MayElapse, Stays, with_reply, Backoff, IsSome, IsOpen}
 use Rattle.tftp_promises.proofs.Common.{newest, Life, IsNoActAt, IsEventOf, Begins_so, Tells, wait_at, Begins, Times}
-use Rattle.tftp_promises.proofs.Common.{Opens, Hears, Empty, Sends, AreNoted, QuietEvent}
+use Rattle.tftp_promises.proofs.Common.{Opens, Hears, Empty, Sends, AreNoted, QuietEvent, []}
 use Rattle.tftp_sockets.specs.Trace.QuietEvent.{Failed}
 use Rattle.tftp_lives.specs.Lives.{Loses as Loses_it}
 use Rattle.tftp_lives.specs.Unanswered.{To_get, To_put}
 use Rattle.tftp_promises.specs.Lived.{Elapses_then, Passes, Receives, Misses, client_acts, elapsing_acts, handling_acts}
 use Rattle.tftp_promises.specs.Traces.{IsOfPort, IsQuietAt, AsksFirst}
+
+-- ---- a trace that goes on
+module _ (port : ℕ) (before : List SocketEvent) where
+  abbrev pub Noted : List SocketEvent → List Act → Type 0
+  Noted events acts = AreNoted port before events acts
+
+  -- by an event that is no act
+  pub noted_on : (events : List SocketEvent) (acts : List Act) (e : SocketEvent) → IsNoActAt port e → Noted events acts →
+      Noted (e ∷ events) acts
+  noted_on events acts e other h = record {
+    noted = e ∷ h.noted;
+    is = ap (λ (es : List SocketEvent). e ∷ es) h.is;
+    tells = Passes e other h.tells;
+  }
+
+  -- by an act
+  act_told : {events : List SocketEvent} {acts : List Act} (e : SocketEvent) (act : Act) → IsEventOf port e act →
+      Tells port events acts → Tells port (e ∷ events) (act ∷ acts)
+  act_told e (Took from bytes) is t = rw is (Receives from bytes t)
+  act_told e (Lost from bytes) is t = rw is (Misses from bytes t)
+  act_told e (Said to bytes) is t = rw is (Sends to bytes t)
+  act_told e Timed is t = rw is.1 (Elapses_then is.0 t)
+
+  pub noted_act : (events : List SocketEvent) (acts : List Act) (e : SocketEvent) (act : Act) → IsEventOf port e act →
+      Noted events acts → Noted (e ∷ events) (act ∷ acts)
+  noted_act events acts e act is h = search (rules, act_told)
+
+  pub noted_reply : (events : List SocketEvent) (acts : List Act) (reply : Option Reply) → Noted events acts →
+      Noted (answered port reply events) (with_reply reply acts)
+  noted_reply events acts reply h = search (rules, noted_act)
+
+-- ---- along a run of a client
+-- a receive at the port without a datagram
+at_port : (port : ℕ) (event : QuietEvent) → (event ≡ Empty port) ⊎ (event ≡ Failed port) → IsQuietAt port event
+at_port port event which = search rules
+
+-- what events of the port that are no acts keep, and acts of it, a run keeps
+module _ {port : ℕ} (P : List SocketEvent → List Act → Type 0)
+    (also : (events : List SocketEvent) (acts : List Act) (e : SocketEvent) → IsOfPort port e → IsNoActAt port e →
+    P events acts → P (e ∷ events) acts)
+    (acted : (events : List SocketEvent) (acts : List Act) (e : SocketEvent) (act : Act) → IsOfPort port e →
+    IsEventOf port e act → P events acts → P (e ∷ events) (act ∷ acts)) where
+  replied : (events : List SocketEvent) (acts : List Act) (reply : Option Reply) → P events acts →
+      P (answered port reply events) (with_reply reply acts)
+  replied events acts None h = h
+  replied events acts (Some reply) h =
+      acted events acts (Sent port reply.to reply.bytes) (Said reply.to reply.bytes) refl refl h
+
+  elapsed_so : {s next : State} (acts : List Act) (elapses : MayElapse port s next) → P s.events acts →
+      P next.events (elapsing_acts elapses acts)
+  elapsed_so acts (Stays why) h = h
+  elapsed_so {s} acts (Elapses due still) h =
+      replied (Elapsed port s.now ∷ s.events) (Timed ∷ acts) (timeout_turn s.end).reply
+      (acted s.events acts (Elapsed port s.now) Timed refl (s.now, refl) h)
+
+  module _ {G K : Type 0} {inputs : SourceMeaning G} {outputs : SinkMeaning K} where
+    handled_so : {from : Endpoint} {bytes : List ℕ} {s next : State} {files files' : Files G K} (acts : List Act)
+        (handles : HandlesReceived inputs outputs port from bytes s files next files') →
+        P s.events (Took from bytes ∷ acts) → P s.events (Lost from bytes ∷ acts) →
+        P next.events (handling_acts handles acts)
+    handled_so {from} {bytes} {s} acts (Answers {turn} still step) took lost =
+        replied s.events (Took from bytes ∷ acts) turn.reply took
+    handled_so acts (Loses why keeps) took lost = lost
+
+    does_so : {s s' : State} {files files' : Files G K} (acts : List Act)
+        (does : ClientDoes inputs outputs port s files s' files') → P s.events acts → P s'.events (client_acts does acts)
+    does_so {s} acts (Receives_one {from = from} {bytes = bytes} {watch = watch} may later handles) h =
+        let slept = also s.events acts (Quiet (Slept (wait_at s))) tt tt h in
+        handled_so acts handles
+        (also _ _ (Watched watch) tt tt (acted _ acts (Received port from bytes) (Took from bytes) refl refl slept))
+        (also _ _ (Watched watch) tt tt (acted _ acts (Received port from bytes) (Lost from bytes) refl refl slept))
+    does_so {s} acts (Waits_until {event = event} {watch = watch} may which later) h =
+        also _ acts (Watched watch) tt tt (also _ acts (Quiet event) (at_port port event which) tt
+        (also s.events acts (Quiet (Slept (wait_at s))) tt tt h))
+    does_so acts (Times_out elapses) h = elapsed_so acts elapses h
+    does_so acts (File_works works) h = h
+    does_so {s} acts does h = also s.events acts _ tt tt h
+
+    run_so : {first : State} {file : Files G K} {s : State} {files : Files G K}
+        (run : ClientRun inputs outputs port first file s files) → P first.events (newest first.end ∷ []) →
+        P s.events (acts_in run)
+    run_so Starts h = h
+    run_so (Goes_on run does) h = does_so (acts_in run) does (run_so run h)
 
 -- the events since `first` are of this port
 abbrev pub Since : ℕ → List SocketEvent → List SocketEvent → Type 0
@@ -24,46 +106,23 @@ one_more : {port : ℕ} {first events : List SocketEvent} (e : SocketEvent) → 
     Since port first (e ∷ events)
 one_more e own since = (e ∷ since.0, ap (λ (es : List SocketEvent). e ∷ es) since.1, (own, since.2))
 
-answer : {first events : List SocketEvent} (port : ℕ) (reply : Option Reply) → Since port first events →
-    Since port first (answered port reply events)
-answer port None since = since
-answer port (Some reply) since = one_more (Sent port reply.to reply.bytes) refl since
-
--- a receive at the port without a datagram
-at_port : (port : ℕ) (event : QuietEvent) → (event ≡ Empty port) ⊎ (event ≡ Failed port) → IsQuietAt port event
-at_port port event which = search rules
-
-elapse : {first : List SocketEvent} {port : ℕ} {s next : State} → MayElapse port s next → Since port first s.events →
-    Since port first next.events
-elapse (Stays why) since = since
-elapse {port = port} {s = s} (Elapses due still) since = answer port _ (one_more (Elapsed port s.now) refl since)
-
 module _ {G K : Type 0} {inputs : SourceMeaning G} {outputs : SinkMeaning K} where
-  handle : {first : List SocketEvent} {port : ℕ} {from : Endpoint} {bytes : List ℕ} {s : State} {files : Files G K}
-      {next : State} {files' : Files G K} →
-      HandlesReceived inputs outputs port from bytes s files next files' → Since port first s.events →
-      Since port first next.events
-  handle {port = port} (Answers {turn} still step) since = answer port turn.reply since
-  handle (Loses lost keeps) since = since
-
-  -- a step
-  does_since : {first : List SocketEvent} {port : ℕ} {s : State} {files : Files G K} {s' : State} {files' : Files G K} →
-      ClientDoes inputs outputs port s files s' files' → Since port first s.events → Since port first s'.events
-  does_since {port = port} {s = s} (Receives_one {from = from} {bytes = bytes} {watch = watch} may later handles) since =
-      handle handles (one_more (Watched watch) tt
-      (one_more (Received port from bytes) refl (one_more (Quiet (Slept (wait_at s))) tt since)))
-  does_since (Reads_clock progress {watch} later) since = one_more (Watched watch) tt since
-  does_since {port = port} {s = s} (Waits_until {event = event} {watch = watch} may which later) since =
-      one_more (Watched watch) tt (one_more (Quiet event) (at_port port event which)
-      (one_more (Quiet (Slept (wait_at s))) tt since))
-  does_since (Times_out elapses) since = elapse elapses since
-  does_since (File_works works) since = since
-  does_since (Prints_line line) since = one_more (Printed line) tt since
-
   pub converse : {port : ℕ} {first : State} {file : Files G K} {s : State} {files : Files G K} →
       ClientRun inputs outputs port first file s files → Since port first.events s.events
-  converse Starts = ([], refl, tt)
-  converse (Goes_on run does) = does_since does (converse run)
+  converse {port} {first} run =
+      run_so (λ events acts. Since port first.events events) (λ events acts e own other. one_more e own)
+      (λ events acts e act own is. one_more e own) run ([], refl, tt)
+
+  -- the trace of a client tells of what it did
+  pub client_noted : (before : List SocketEvent) {port : ℕ} {backoff : Backoff} {reading : ℕ} {end : EndState}
+      {file : Files G K} {s : State} {files : Files G K}
+      (run : ClientRun inputs outputs port (begun backoff port reading end before) file s files) →
+      AreNoted port before s.events (acts_in run)
+  client_noted before {port} {end = end} run =
+      run_so (Noted port before) (λ events acts e own. noted_on port before events acts e)
+      (λ events acts e act own. noted_act port before events acts e act) run
+      (noted_act port before before [] (Sent port end.position.last_sent_to end.position.last_sent) (newest end) refl
+      (record { noted = []; is = refl; tells = Begins_so }))
 
   -- the request goes to the server
   pub asks_there : {to : Endpoint} {first : EndState} {file : Files G K} → ClientOpens inputs outputs to first file →
@@ -164,84 +223,9 @@ client_opening {to = to} (To_write opens) =
     To_put to opens.name opens.mode opens.asked opens.length opens.limit opens.retries opens.may.options.askable
     opens.is
 
--- What the end of a client has handled and sent is just what its trace has of its port.
-
--- ---- a trace that goes on
-module _ (port : ℕ) (before : List SocketEvent) where
-  abbrev pub Noted : List SocketEvent → List Act → Type 0
-  Noted events acts = AreNoted port before events acts
-
-  -- by an event that is no act
-  pub noted_on : (events : List SocketEvent) (acts : List Act) (e : SocketEvent) → IsNoActAt port e → Noted events acts →
-      Noted (e ∷ events) acts
-  noted_on events acts e other h = record {
-    noted = e ∷ h.noted;
-    is = ap (λ (es : List SocketEvent). e ∷ es) h.is;
-    tells = Passes e other h.tells;
-  }
-
-  -- by an act
-  act_told : {events : List SocketEvent} {acts : List Act} (e : SocketEvent) (act : Act) → IsEventOf port e act →
-      Tells port events acts → Tells port (e ∷ events) (act ∷ acts)
-  act_told {events} {acts} e (Took from bytes) is t =
-      subst (λ (x : SocketEvent). Tells port (x ∷ events) (Took from bytes ∷ acts)) (sym is) (Receives from bytes t)
-  act_told {events} {acts} e (Lost from bytes) is t =
-      subst (λ (x : SocketEvent). Tells port (x ∷ events) (Lost from bytes ∷ acts)) (sym is) (Misses from bytes t)
-  act_told {events} {acts} e (Said to bytes) is t =
-      subst (λ (x : SocketEvent). Tells port (x ∷ events) (Said to bytes ∷ acts)) (sym is) (Sends to bytes t)
-  act_told {events} {acts} e Timed is t =
-      subst (λ (x : SocketEvent). Tells port (x ∷ events) (Timed ∷ acts)) (sym is.1) (Elapses_then is.0 t)
-
-  pub noted_act : (events : List SocketEvent) (acts : List Act) (e : SocketEvent) (act : Act) → IsEventOf port e act →
-      Noted events acts → Noted (e ∷ events) (act ∷ acts)
-  noted_act events acts e act is h = search (rules, act_told)
-
-  pub noted_reply : (events : List SocketEvent) (acts : List Act) (reply : Option Reply) → Noted events acts →
-      Noted (answered port reply events) (with_reply reply acts)
-  noted_reply events acts reply h = search (rules, noted_act)
-
--- ---- a client
-elapsing_noted : (before : List SocketEvent) {port : ℕ} {s next : State} (acts : List Act) (elapses : MayElapse port s next) →
-    AreNoted port before s.events acts → AreNoted port before next.events (elapsing_acts elapses acts)
-elapsing_noted before acts (Stays why) h = h
-elapsing_noted before {port = port} {s = s} acts (Elapses due still) h =
-    noted_reply port before (Elapsed port s.now ∷ s.events) (Timed ∷ acts) (timeout_turn s.end).reply
-    (noted_act port before s.events acts (Elapsed port s.now) Timed (s.now, refl) h)
-
-module _ {G K : Type 0} {inputs : SourceMeaning G} {outputs : SinkMeaning K} {port : ℕ} (before : List SocketEvent) where
-  handling_noted : {from : Endpoint} {bytes : List ℕ} {s next : State} {files files' : Files G K} (acts : List Act)
-      (handles : HandlesReceived inputs outputs port from bytes s files next files') →
-      AreNoted port before s.events (Took from bytes ∷ acts) → AreNoted port before s.events (Lost from bytes ∷ acts) →
-      AreNoted port before next.events (handling_acts handles acts)
-  handling_noted {from = from} {bytes = bytes} {s = s} acts (Answers {turn} still step) took lost =
-      noted_reply port before s.events (Took from bytes ∷ acts) turn.reply took
-  handling_noted acts (Loses why keeps) took lost = lost
-
-  does_noted : {s s' : State} {files files' : Files G K} (acts : List Act)
-      (does : ClientDoes inputs outputs port s files s' files') → AreNoted port before s.events acts →
-      AreNoted port before s'.events (client_acts does acts)
-  does_noted {s = s} acts (Receives_one {from = from} {bytes = bytes} {watch = watch} may later handles) h =
-      let es = Quiet (Slept (wait_at s)) ∷ s.events in
-      let slept = noted_on port before s.events acts (Quiet (Slept (wait_at s))) tt h in
-      handling_noted acts handles
-      (noted_on port before (Received port from bytes ∷ es) (Took from bytes ∷ acts) (Watched watch) tt
-      (noted_act port before es acts (Received port from bytes) (Took from bytes) refl slept))
-      (noted_on port before (Received port from bytes ∷ es) (Lost from bytes ∷ acts) (Watched watch) tt
-      (noted_act port before es acts (Received port from bytes) (Lost from bytes) refl slept))
-  does_noted {s = s} acts (Reads_clock progress {watch} later) h = noted_on port before s.events acts (Watched watch) tt h
-  does_noted {s = s} acts (Waits_until {event = event} {watch = watch} may which later) h =
-      let es = Quiet (Slept (wait_at s)) ∷ s.events in
-      noted_on port before (Quiet event ∷ es) acts (Watched watch) tt
-      (noted_on port before es acts (Quiet event) tt (noted_on port before s.events acts (Quiet (Slept (wait_at s))) tt h))
-  does_noted acts (Times_out elapses) h = elapsing_noted before acts elapses h
-  does_noted acts (File_works works) h = h
-  does_noted {s = s} acts (Prints_line line) h = noted_on port before s.events acts (Printed line) tt h
-
-  -- the trace of a client tells of what it did
-  pub client_noted : {backoff : Backoff} {reading : ℕ} {end : EndState} {file : Files G K} {s : State} {files : Files G K}
-      (run : ClientRun inputs outputs port (begun backoff port reading end before) file s files) →
-      AreNoted port before s.events (acts_in run)
-  client_noted {end = end} Starts =
-      noted_act port before before [] (Sent port end.position.last_sent_to end.position.last_sent) (newest end) refl
-      (record { noted = []; is = refl; tells = Begins_so })
-  client_noted (Goes_on run does) = does_noted (acts_in run) does (client_noted run)
+-- so what it did is just what its program noted
+pub client_tells : {G K : Type 0} {inputs : SourceMeaning G} {outputs : SinkMeaning K} {to : Endpoint}
+    (client : ClientProgram inputs outputs to) → Tells client.port client.noted (acts_in client.runs)
+client_tells client =
+    let h = client_noted client.before client.runs in
+    rw (append_cancel_right client.noted h.noted client.before (sym client.is_noted ∙ h.is)) h.tells

@@ -88,20 +88,14 @@ module _ {G K : Type 0} {inputs : SourceMeaning G} {outputs : SinkMeaning K} {po
   goes_so run (Times more elapses) = let so = goes_so run more in (Goes_on so.0 (Times_out elapses), so.1)
   goes_so run (Rests more works) = let so = goes_so run more in (Goes_on so.0 (File_works works), so.1)
 
-  goes_on : {s : State} {files : Files G K} → ClientRun inputs outputs port first file s files →
-      {s' : State} {files' : Files G K} → Converses inputs outputs port s files s' files' →
-      ClientRun inputs outputs port first file s' files'
-  goes_on run more = (goes_so run more).0
-
 pub clients_run : {G K : Type 0} (inputs : SourceMeaning G) (outputs : SinkMeaning K) → ClientsAreRuns inputs outputs
 clients_run inputs outputs backoff port end before s files runs = record {
-  runs_so = goes_on Starts runs.converses;
+  runs_so = (goes_so Starts runs.converses).0;
   stays_so =
       λ line after stays. (
         stays.last,
         stays.files,
-        goes_on (Goes_on (goes_on Starts runs.converses) (Prints_line line))
-            stays.converses,
+        (goes_so (Goes_on (goes_so Starts runs.converses).0 (Prints_line line)) stays.converses).0,
         stays.events,
       );
 }

@@ -3,13 +3,16 @@
 use Rattle.tftp_promises.proofs.Common.{List, ℕ, ◌≡◌, rules, sym, Endpoint, refl, [], ◌∙◌, ap, SourceMeaning, Some}
 use Rattle.tftp_promises.proofs.Common.{subst, inl, StoreMeaning, inr, SinkMeaning, false, true, Programs, Bool}
 use Rattle.tftp_promises.proofs.Common.{EndState, Contains, Files, true≢false, slice_get, TransferState, joined}
-use Rattle.tftp_promises.proofs.Common.{ClientOf, is_sender, client_at, same_Some, at, open_view, Spells, Message}
-use Rattle.tftp_promises.proofs.Common.{moved_in, WirePacket, EndView, not, requests_at, Ok, is_client, message, all_of}
-use Rattle.tftp_promises.proofs.Common.{said, client_end, WireRequest, ClientOpens, requested, HasOpened, To_read}
+use Rattle.tftp_promises.proofs.Common.{ClientOf, is_sender, client_at, same_Some, open_view, Spells, moved_in}
+use Rattle.tftp_promises.proofs.Common.{WirePacket, EndView, not, requests_at, Ok, is_client, message, all_of, said}
+use Rattle.tftp_promises.proofs.Common.{client_end, WireRequest, ClientOpens, requested, HasOpened, To_read, at}
 use Rattle.tftp_promises.proofs.Common.{ArePortsFresh, Read, To_write, request_of, ServesClient, ProgramEnd, IsEnd}
 use Rattle.tftp_promises.proofs.Common.{Attests, path_of_name, Write, Machine, spells_own, Party, transfer_end}
-use Rattle.tftp_promises.proofs.Common.{one_meaning, Request, Matches, Shows, request_packet, shown_by, own_client}
+use Rattle.tftp_promises.proofs.Common.{one_meaning, Request, Matches, Shows, request_packet, own_client, ◌≢◌, Holds}
+use Rattle.tftp_promises.proofs.Common.{Elsewhere, start, run}
 use Rattle.tftp_rules.specs.Facts.{IsServing}
+use Rattle.tftp_rules.specs.EndShown.{IsThere}
+use Rattle.tftp_rules.proofs.Runs.{Holds-start, Holds-run}
 use Rattle.tftp_rules.specs.Machine.{Packet}
 use Rattle.tftp_rules.specs.Shows.{answered_by}
 use Rattle.tftp_promises.specs.AnyFiles.{peer_of}
@@ -104,7 +107,50 @@ module _ {S F D G K : Type 0} {stores : StoreMeaning S D} {sources : SourceMeani
   one_there fresh x y (inr c) (inl d) same =
       absurd (client_alone d.0 d.1 c.0 c.1 c.2 d.2 c.3
       (sym (ap (λ (e : ProgramEnd). e.address) d.3) ∙ (sym same ∙ ap (λ (e : ProgramEnd). e.address) c.4)))
-  one_there fresh x y (inr c) (inr d) same = search rules
+  one_there fresh x y (inr c) (inr d) same =
+      let at : c.2 ≡ d.2 =
+      sym (ap (λ (e : ProgramEnd). e.address) c.4) ∙ (same ∙ ap (λ (e : ProgramEnd). e.address) d.4) in
+      let one = kept.server.once c.0 d.0 c.1 d.1 c.2 d.2 c.3 d.3 at in
+      c.4 ∙ (ap (λ t. transfer_end programs t c.2) one ∙ (ap (transfer_end programs d.1) at ∙ sym d.4))
+
+  -- ---- the machine that shows the programs
+  abbrev pub m : Machine
+  m = run (joined programs) kept.shown.0 start
+
+  pub holds : Holds (joined programs) m
+  holds = Holds-run (joined programs) kept.shown.0 start (Holds-start (joined programs)) kept.shown.1.0
+
+  pub shows : Shows kept.views kept.messages m
+  shows = kept.shown.1.1
+
+  -- what an end of the programs said is true there
+  pub true_in : (from to : Endpoint) (says : Packet) → Contains kept.messages (message from to says) →
+      (joined programs).host_of from ≢ Elsewhere → Attests (m.party from) to says
+  true_in from to says inside somewhere = holds.attested (message from to says) (rw shows.sent inside) somewhere
+
+  module _ (k : ℕ) (client : Client) (found : slice_get programs.clients k ≡ Some client) where
+    pub x : ClientKept programs pad kept.views kept.messages client client.last client.files (moved_in client.runs)
+    x = client_kept kept k client found
+
+    pub client_matches : Matches (open_view x.end) (m.party (there client))
+    client_matches =
+        subst (λ (a : Endpoint). Matches (open_view x.end) (m.party a)) x.address
+        (shows.ends x.viewed.index (open_view x.end) x.viewed.viewed)
+
+    -- its request, as the machine knows it
+    pub asks_as : (write : Bool) (request : WireRequest) (bytes : List ℕ) → Spells (requested write request) bytes →
+        IsThere kept.messages (there client) (requests_at programs) bytes →
+        Attests (m.party (there client)) (requests_at programs) (Request write request)
+    asks_as write request bytes spells inside =
+        let says : said inside.0 ≡ Request write request =
+        ap said (one_meaning inside.0 (requested write request) bytes inside.1 spells) ∙ says_request write request in
+        rw says at (true_in (there client) (requests_at programs) (said inside.0) inside.2
+        (own_client (joined programs) (there client) (clients_there programs k client found)))
+
+    pub own_asks : Attests (m.party (there client)) (requests_at programs)
+        (Request (writes client.opens) (wire_of client.opens))
+    own_asks =
+        asks_as (writes client.opens) (wire_of client.opens) client.first.position.last_sent (asks_so client.opens) x.asks
 
   -- ---- the peer of a client
   module _ (k : ℕ) (client : Client) (p : Endpoint) (found : slice_get programs.clients k ≡ Some client)
@@ -112,35 +158,14 @@ module _ {S F D G K : Type 0} {stores : StoreMeaning S D} {sources : SourceMeani
     abbrev to : Endpoint
     to = requests_at programs
 
-    x : ClientKept programs pad kept.views kept.messages client client.last client.files (moved_in client.runs)
-    x = client_kept kept k client found
-
-    abbrev m : Machine
-    m = (shown_by (joined programs) kept.views kept.messages kept.shown).0
-
-    shows : Shows kept.views kept.messages m
-    shows = (shown_by (joined programs) kept.views kept.messages kept.shown).3
-
-    matches : Matches (open_view x.end) (m.party x.end.address)
-    matches = shows.ends x.viewed.index (open_view x.end) x.viewed.viewed
+    abbrev c : ClientKept programs pad kept.views kept.messages client client.last client.files (moved_in client.runs)
+    c = x k client found
 
     serving : IsServing (there client) (m.party (there client)) (m.party p)
     serving =
-        let holds = (shown_by (joined programs) kept.views kept.messages kept.shown).1 in
-        rw (← x.address) ((holds.ends x.end.address matches.is_open).serving (matches.client ∙ x.side) p (matches.peer ∙
-        ((views_end x.end (there client) client.last.end x.address x.state).peer ∙ peer))).1
-
-    -- its request, as the machine knows it
-    asks : Attests (m.party (there client)) to (Request (writes client.opens) (wire_of client.opens))
-    asks =
-        let holds = (shown_by (joined programs) kept.views kept.messages kept.shown).1 in
-        let packet =
-        one_meaning x.asks.0 (requested (writes client.opens) (wire_of client.opens)) client.first.position.last_sent
-        x.asks.1 (asks_so client.opens) in
-        let says = ap said packet ∙ says_request (writes client.opens) (wire_of client.opens) in
-        subst (λ (q : Packet). Attests (m.party (there client)) to q) says (holds.attested (message (there client) to
-        (said x.asks.0)) (subst (λ (ds : List Message). Contains ds (message (there client) to (said x.asks.0))) (sym
-        shows.sent) x.asks.2) (own_client (joined programs) (there client) (clients_there programs k client found)))
+        let matches = client_matches k client found in
+        ((holds.ends (there client) matches.is_open).serving (matches.client ∙ c.side) p (matches.peer ∙
+        ((views_end c.end (there client) client.last.end c.address c.state).peer ∙ peer))).1
 
     module _ (port : ℕ) (transfer : TransferState F D) (opened : HasOpened programs port transfer p) where
       y : TransferKept pad kept.views kept.messages (all_of programs) port transfer p
@@ -163,7 +188,7 @@ module _ {S F D G K : Type 0} {stores : StoreMeaning S D} {sources : SourceMeani
           let says = shows.asked y.viewed.index (open_view y.end) y.viewed.viewed (inr (y.side, some_bytes)) in
           let same : answered_by (m.party y.end.address) ≡ requested (writes client.opens) (wire_of client.opens) =
           ap (λ (a : Endpoint). answered_by (m.party a)) y.address ∙ answers_it (there client) to (m.party (there
-          client)) (m.party p) (writes client.opens) (wire_of client.opens) serving asks in
+          client)) (m.party p) (writes client.opens) (wire_of client.opens) serving (own_asks k client found) in
           search rules
 
       its_peer : peer_of (transfer_end programs transfer p) ≡ Some (there client)
@@ -173,8 +198,8 @@ module _ {S F D G K : Type 0} {stores : StoreMeaning S D} {sources : SourceMeani
       -- one of the two sends
       its_side : is_sender transfer.end.role.side ≡ not (is_sender client.last.end.role.side)
       its_side =
-          ap (λ e. is_sender e.role.side) (sym y.state) ∙ (sym its_match.sender ∙ (serving.sender ∙ ap not (ap (λ a.
-          (m.party a).sender) (sym x.address) ∙ (matches.sender ∙ ap (λ e. is_sender e.role.side) x.state))))
+          ap (λ e. is_sender e.role.side) (sym y.state) ∙ (sym its_match.sender ∙ (serving.sender
+          ∙ ap not ((client_matches k client found).sender ∙ ap (λ e. is_sender e.role.side) c.state)))
 
       its_path : path_of_name (name_of client.opens) ≡ Ok transfer.path
       its_path =

@@ -9,10 +9,10 @@ use Rattle.tftp_promises.proofs.Common.{datagram_action, Terms, error_bytes, ◌
 use Rattle.tftp_promises.proofs.Common.{has_error_opcode, Store, Phase, files_of, nat_lt, AreSame, response_turn}
 use Rattle.tftp_promises.proofs.Common.{files_in, ⊤, At_server, Send, terms_of, Goes, Attests, Machine, if_acts, Accept}
 use Rattle.tftp_promises.proofs.Common.{WrongPeer, packet_action, Ignore, is_wrong_peer, garbled_response, is_none}
-use Rattle.tftp_promises.proofs.Common.{Stands, Response, Refuse, Waiting, At_client, Sending, UnknownTransferId}
-use Rattle.tftp_promises.proofs.Common.{says_error, Close, next_action, illegal_action, is_readable, data_action}
-use Rattle.tftp_promises.proofs.Common.{shown_by, KeepsStore, Holds, PhaseKept, sender_action, with_position, IsAnswer}
-use Rattle.tftp_promises.proofs.Common.{Closed, Wait, Receiving, Dallying, timeout_response}
+use Rattle.tftp_promises.proofs.Common.{Stands, Response, Refuse, At_client, UnknownTransferId, says_error, Close}
+use Rattle.tftp_promises.proofs.Common.{next_action, illegal_action, is_readable, data_action, shown_by, KeepsStore}
+use Rattle.tftp_promises.proofs.Common.{Holds, PhaseKept, sender_action, with_position, IsAnswer, Closed, Wait}
+use Rattle.tftp_promises.proofs.Common.{timeout_response, answer}
 use Rattle.tftp_ends.specs.declared.action.Response.TheVariants.{Retransmit}
 use Rattle.tftp_ends.specs.Receiver.{receiver_action, dally_response}
 use Rattle.tftp_ends.specs.Step.{after}
@@ -177,6 +177,14 @@ module _ (network : Network) (first : List Rule) (views : List EndView) (message
     pub same : after response from x.state ≡ x.state.position
     pub goes : Goes network first views messages k x (response_turn response from x.state) x
 
+  -- it is ignored, or refused as another peer's
+  ignored_or_refused : (x : OpenEnd) → Stands network first views messages k (open_view x) → EndKept network x →
+      (from : Endpoint) → ClosedAnswers x from (Respond Ignore) × ClosedAnswers x from (Respond WrongPeer)
+  ignored_or_refused x s kept from = (
+    record { response = Ignore; is = refl; same = refl; goes = ignores x s kept from },
+    record { response = WrongPeer; is = refl; same = refl; goes = answers_wrong_peer x s kept from },
+  )
+
   module _ (x0 : OpenEnd) (terms : Option Terms) (n : ℕ) (complete : Bool) (outcome : Outcome) where
     abbrev closed_end : OpenEnd
     closed_end = with_phase (Closed terms n complete outcome) x0
@@ -186,12 +194,7 @@ module _ (network : Network) (first : List Rule) (views : List EndView) (message
       answers : (from : Endpoint) (bytes : List ℕ) (decoded : Option WirePacket) →
           ClosedAnswers closed_end from (datagram_action closed_end.state from bytes decoded)
       answers from bytes decoded =
-          let P = ClosedAnswers closed_end from in
-          let ignored : P (Respond Ignore) =
-          record { response = Ignore; is = refl; same = refl; goes = ignores closed_end s kept from } in
-          let refused : P (Respond WrongPeer) =
-          record { response = WrongPeer; is = refl; same = refl; goes = answers_wrong_peer closed_end s kept from } in
-          search rules
+          let parts = ignored_or_refused closed_end s kept from in search rules
 
       abbrev Turns_by : Response → Type 0
       Turns_by response =
@@ -242,22 +245,14 @@ module _ (network : Network) (first : List Rule) (views : List EndView) (message
         EndKept network (with_phase phase x) → is_some (outcome_of phase) ≡ true →
         ClosedAnswers (with_phase phase x) from (datagram_action (with_phase phase x).state from bytes decoded)
     by_phase (Closed terms n complete outcome) t kept c = answers x terms n complete outcome t kept from bytes decoded
-    by_phase (Waiting asked limit) t kept c = absurd (true≢false (sym c))
-    by_phase (Sending terms n) t kept c = absurd (true≢false (sym c))
-    by_phase (Receiving terms n) t kept c = absurd (true≢false (sym c))
-    by_phase (Dallying terms n dally) t kept c = absurd (true≢false (sym c))
+    by_phase phase t kept c = absurd (true≢false (sym c))
 
   -- an end with a datagram that is not from its peer
   pub wrong_datagram_goes : (x : OpenEnd) → Stands network first views messages k (open_view x) → EndKept network x →
       (peer : Endpoint) → peer_of x.state.position.phase ≡ Some peer → (from : Endpoint) → peer ≢ from →
       (bytes : List ℕ) (decoded : Option WirePacket) → ClosedAnswers x from (datagram_action x.state from bytes decoded)
   wrong_datagram_goes x s kept peer is from n bytes decoded =
-      let P = ClosedAnswers x from in
-      let ignored : P (Respond Ignore) =
-      record { response = Ignore; is = refl; same = refl; goes = ignores x s kept from } in
-      let refused : P (Respond WrongPeer) =
-      record { response = WrongPeer; is = refl; same = refl; goes = answers_wrong_peer x s kept from } in
-      search rules
+      let parts = ignored_or_refused x s kept from in search rules
 
   -- a closed end at a timeout
   pub closed_timeout_goes : (x : OpenEnd) → Stands network first views messages k (open_view x) → EndKept network x →

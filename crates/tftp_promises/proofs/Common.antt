@@ -64,7 +64,7 @@ pub use Rattle.tftp_ends.specs.Step.{filled_turn, sent_turn, result_count_is, re
 pub use Rattle.tftp_ends.specs.Step.{GoesOn}
 pub use Rattle.tftp_ends.specs.Text.{is_readable}
 pub use Rattle.tftp_ends.specs.Waiting.{writer_action, agreed_terms, accept_action, reader_action, begin_with_action}
-pub use Rattle.tftp_ends.specs.Waiting.{begin_action, default_terms, no_answer}
+pub use Rattle.tftp_ends.specs.Waiting.{begin_action}
 pub use Rattle.tftp_ends.specs.declared.action.Action.{Action}
 pub use Rattle.tftp_ends.specs.declared.action.Action.TheVariants.{Respond, Store, Send}
 pub use Rattle.tftp_ends.specs.declared.action.Response.{Response}

@@ -4,14 +4,15 @@ use Rattle.tftp_promises.proofs.Common.{List, ℕ, ◌≡◌, rules, sym, Endpoi
 use Rattle.tftp_promises.proofs.Common.{subst, inl, StoreMeaning, inr, ◌∷◌, SinkMeaning, false, true, None, ◌++◌}
 use Rattle.tftp_promises.proofs.Common.{Programs, Bool, ◌⊎◌, Contains, SocketEvent, true≢false, arith, ◌≢◌, length}
 use Rattle.tftp_promises.proofs.Common.{slice_get, Sent, if◌then◌else◌, client_at, Received, endpoint, same_Some, suc}
-use Rattle.tftp_promises.proofs.Common.{IsStranger, Noted, ◌==◌, cases_Bool, zero, ◌<◌, cases_eq, ◌+◌, Elapsed, eq-eqb}
-use Rattle.tftp_promises.proofs.Common.{map, Watched, Printed, AreJoined, events_of, Quiet, Contains-append_left}
+use Rattle.tftp_promises.proofs.Common.{IsStranger, Noted, ◌==◌, cases_Bool, zero, cases_eq, ◌+◌, eq-eqb, map}
+use Rattle.tftp_promises.proofs.Common.{AreJoined, events_of, Contains-append_left}
 use Rattle.tftp_promises.proofs.Common.{common_steps, TakesOwn, Contains-append_right, MayCome, IsHonest, eqb-true}
 use Rattle.tftp_promises.proofs.Common.{ne_eqb, slice_get-map, IsError, heard_with, alone, CanCome, number_of, IsOrder}
 use Rattle.tftp_promises.proofs.Common.{ips, ServerProgram, OneClient, IsAtOf, Several, OneServer, WasSent, has_port}
-use Rattle.tftp_promises.proofs.Common.{IsHonestOf, CanComeOf}
-use Rattle.tftp_promises.specs.Joined.{ProgramsKeepAnyFiles}
-use Rattle.tftp_promises.specs.Alone.{AreAmong, EachIsJoined, EachKeepsAnyFiles, EachTakesOne}
+use Rattle.tftp_promises.proofs.Common.{IsHonestOf, CanComeOf, joined}
+use Rattle.std.proofs.lemmas.Option.{slice_get_within}
+use Rattle.tftp_promises.specs.Joined.{OfJoined, ProgramsKeepAnyFiles}
+use Rattle.tftp_promises.specs.Alone.{AreAmong, EachIsJoined, EachTakesOne, OfEachServed}
 use Rattle.tftp_promises.specs.Order.{IsStrangerTo}
 use Rattle.tftp_promises.specs.Several.{all_sent_from, apart_from, ips_of, known_ports, other_ports, others_sent_from}
 use Rattle.tftp_promises.specs.Several.{sent_from}
@@ -69,17 +70,15 @@ module _ (s m : ℕ) (apart : s ≢ m) where
   heard_server : (order : List Noted) (x : SocketEvent) → Contains order (s, x) → Contains (heard_with s m order) (0, x)
   heard_server [] x c = absurd (nothing_in (s, x) c)
   heard_server (e ∷ order) x c = elim (first_or_more e (s, x) order c) [
-    | inl same ↦ rw (same) (subst (λ (b : Bool). Contains (heard_by b (s == m) (s, x) (heard_with s m order)) (0, x))
-        (sym (eq-eqb s s refl)) (first_in (0, x) (heard_with s m order)))
+    | inl same ↦ rw (same, eq-eqb s s refl) (first_in (0, x) (heard_with s m order))
     | inr more ↦ later_by (e.0 == s) (e.0 == m) e (0, x) (heard_with s m order) (heard_server order x more)
   ]
 
   heard_client : (order : List Noted) (x : SocketEvent) → Contains order (m, x) → Contains (heard_with s m order) (1, x)
   heard_client [] x c = absurd (nothing_in (m, x) c)
   heard_client (e ∷ order) x c = elim (first_or_more e (m, x) order c) [
-    | inl same ↦ rw (same) (subst (λ (b : Bool). Contains (heard_by b (m == m) (m, x) (heard_with s m order)) (1, x))
-        (sym (ne_eqb m s (λ e. apart (sym e)))) (subst (λ (b : Bool). Contains (heard_by false b (m, x) (heard_with s m
-        order)) (1, x)) (sym (eq-eqb m m refl)) (first_in (1, x) (heard_with s m order))))
+    | inl same ↦
+        rw (same, ne_eqb m s (λ e. apart (sym e)), eq-eqb m m refl) (first_in (1, x) (heard_with s m order))
     | inr more ↦ later_by (e.0 == s) (e.0 == m) e (1, x) (heard_with s m order) (heard_client order x more)
   ]
 
@@ -93,12 +92,8 @@ sent_in (e ∷ events) port to bytes c = elim (first_or_more e (Sent port to byt
   | inr more ↦ after e (sent_in events port to bytes more)
 ] where
   after : (x : SocketEvent) → Contains (sent_from events) port → Contains (sent_from (x ∷ events)) port
-  after (Received at from b) i = i
   after (Sent at to b) i = later_in at (sent_from events) port i
-  after (Watched watch) i = i
-  after (Elapsed at time) i = i
-  after (Printed line) i = i
-  after (Quiet event) i = i
+  after x i = i
 
 module _ {S F D : Type 0} {stores : StoreMeaning S D} {sources : SourceMeaning F} {to : Endpoint} where
   in_all : (servers : List (ServerProgram stores sources to)) (j : ℕ) (x : ServerProgram stores sources to) →
@@ -107,7 +102,7 @@ module _ {S F D : Type 0} {stores : StoreMeaning S D} {sources : SourceMeaning F
   in_all [] j x e port c = absurd (let f : None ≡ Some x = e in cc)
   in_all (y ∷ servers) zero x e port c =
       Contains-append_left (sent_from y.noted) (all_sent_from servers) port
-      (subst (λ (z : ServerProgram stores sources to). Contains (sent_from z.noted) port) (sym (same_Some y x e)) c)
+      (rw (same_Some y x e) c)
   in_all (y ∷ servers) (suc j) x e port c =
       Contains-append_right (sent_from y.noted) (all_sent_from servers) port (in_all servers j x e port c)
 
@@ -127,8 +122,7 @@ in_apart : (own ports : List ℕ) (port : ℕ) → has_port own port ≡ false �
     Contains (apart_from own ports) port
 in_apart own [] port n c = absurd (nothing_in port c)
 in_apart own (p ∷ ports) port n c = elim (first_or_more p port ports c) [
-  | inl same ↦ rw ((ap (has_port own) same ∙ n)) (subst (λ (q : ℕ). Contains (p ∷ apart_from own ports) q) same
-      (first_in p (apart_from own ports)))
+  | inl same ↦ rw (same, n) (first_in port (apart_from own ports))
   | inr more ↦ after (has_port own p) (in_apart own ports port n more)
 ] where
   after : (b : Bool) → Contains (apart_from own ports) port →
@@ -174,11 +168,6 @@ module _ {X Y : Type 0} (ip : List ℕ) (f : Y → List ℕ) (ys : List Y) where
   client_ip (x ∷ xs) zero k y is e = absurd (omega (arith, is))
   client_ip (x ∷ xs) (suc p) k y is e = client_ip xs p k y (omega (arith, is)) e
 
-within_length : {X : Type 0} (xs : List X) (i : ℕ) (x : X) → slice_get xs i ≡ Some x → i < length xs
-within_length [] i x e = absurd (let f : None ≡ Some x = e in cc)
-within_length (y ∷ xs) zero x e = omega arith
-within_length (y ∷ xs) (suc i) x e = let l = within_length xs i x e in omega (arith, l)
-
 module _ {S F D G K : Type 0} {stores : StoreMeaning S D} {sources : SourceMeaning F} {inputs : SourceMeaning G}
     {outputs : SinkMeaning K}
     (several : Several stores sources inputs outputs) (all : List Noted) (i : ℕ) (server : OneServer several) (k : ℕ)
@@ -194,14 +183,14 @@ module _ {S F D G K : Type 0} {stores : StoreMeaning S D} {sources : SourceMeani
   m = number_of several k
 
   two_numbers : i ≢ m
-  two_numbers same = let l = within_length several.servers i server at_i in omega (arith, l, same)
+  two_numbers same = let l = slice_get_within several.servers i server at_i in omega (arith, l, same)
 
   own_port : (j : ℕ) (c : Client) → slice_get several.clients j ≡ Some c →
       (port : ℕ) (to : Endpoint) (bytes : List ℕ) → Contains all (number_of several j, Sent port to bytes) →
       port ≡ c.port
   own_port j c at port to bytes h =
-      sent_own c port to bytes (subst (λ (es : List SocketEvent). Contains es (Sent port to bytes))
-      (among.is_order.clients j c at) (noted_in (number_of several j) (Sent port to bytes) all h))
+      sent_own c port to bytes
+      (rw (among.is_order.clients j c at) at (noted_in (number_of several j) (Sent port to bytes) all h))
 
   abbrev both : Programs stores sources inputs outputs
   both = alone several i server client
@@ -257,15 +246,13 @@ module _ {S F D G K : Type 0} {stores : StoreMeaning S D} {sources : SourceMeani
           let noted =
           rw (among.is_order.servers p x is) at (noted_in p (Sent port to bytes) all (within (p, Sent port to bytes)
           c)) in
-          inr (rw (ap (λ (a : List ℕ). endpoint a port) (sym ip) ∙ sym at.2) at (by_other p x is n port to bytes noted
-          near))
+          inr (rw (at.2, ip) (by_other p x is n port to bytes noted near))
     ]
 
     source_client : (j : ℕ) (y : Client) → slice_get several.clients j ≡ Some y → p ≡ number_of several j →
         at.0 ≡ y.ip → Comes earlier from to bytes
     source_client j y is number ip =
-        let sent : Contains earlier (number_of several j, Sent port to bytes) =
-        subst (λ (q : ℕ). Contains earlier (q, Sent port to bytes)) number c in
+        let sent : Contains earlier (number_of several j, Sent port to bytes) = rw number at c in
         elim (cases_eq j k) [
           | inl same ↦
               let y_is : y ≡ client = same_Some y client (sym is ∙ (ap (slice_get several.clients) same ∙ found)) in
@@ -273,16 +260,11 @@ module _ {S F D G K : Type 0} {stores : StoreMeaning S D} {sources : SourceMeani
                 program = 1;
                 port = port;
                 is_at = search rules;
-                sent = heard_client i m two_numbers earlier (Sent port to bytes) (subst (λ (q : ℕ). Contains earlier
-                    (number_of several q, Sent port to bytes)) same sent);
+                sent = heard_client i m two_numbers earlier (Sent port to bytes) (rw same at sent);
               })
           | inr n ↦
-              inr (inl (subst (λ (a : Endpoint). IsStranger both a) (ap (λ (a : List ℕ). endpoint a port) (sym ip) ∙ sym
-              at.2) (other_strange j y is n port (own_port j y is port to bytes (within (
-                number_of several j,
-                Sent port
-                    to bytes,
-              ) sent)))))
+              inr (inl (rw (at.2, ip)
+              (other_strange j y is n port (own_port j y is port to bytes (within (number_of several j, Sent port to bytes) sent)))))
         ]
 
     source : Comes earlier from to bytes
@@ -342,13 +324,8 @@ module _ {S F D G K : Type 0} {stores : StoreMeaning S D} {sources : SourceMeani
       let here : slice_get (ips_of several) e.0 ≡ Some client.ip =
       client_ip several.ip (λ (z : Client). z.ip) several.clients several.servers e.0 k client number found in
       let noted : Contains client.noted e.1 =
-      subst (λ (es : List SocketEvent). Contains es e.1) (among.is_order.clients k client found) (noted_in m e.1 all
-      (subst (λ (q : ℕ). Contains all (q, e.1)) number (within (e.0, e.1) (first_in e earlier)))) in search (
-        rules,
-        comes,
-        for_client,
-        later_in,
-      )
+      rw (among.is_order.clients k client found) at (noted_in m e.1 all (rw number at (within e (first_in e earlier)))) in
+      search (rules, comes, for_client, later_in)
   honest_by false false e earlier within is at h rest = rest
 
   honest_heard : (earlier : List Noted) → ((x : Noted) → Contains earlier x → Contains all x) →
@@ -373,10 +350,12 @@ module _ {S F D G K : Type 0} (stores : StoreMeaning S D) (sources : SourceMeani
   pub each_joined : EachIsJoined stores sources inputs outputs
   each_joined several order i server k client at_i found served = search (rules, joined_both)
 
-  pub each_keeps_any : EachKeepsAnyFiles stores sources inputs outputs
-  each_keeps_any several order i server k client at_i found served =
-      programs_keep_any stores sources inputs outputs (alone several i server client)
-      (heard_with i (number_of several k) order) (each_joined several order i server k client at_i found served)
+  -- what holds of all programs that are joined holds of a server and each client that it serves
+  pub of_each : {Holds : Programs stores sources inputs outputs → Type 0} → OfJoined stores sources inputs outputs Holds →
+      OfEachServed stores sources inputs outputs Holds
+  of_each holds several order i server k client at_i found served =
+      holds (alone several i server client) (heard_with i (number_of several k) order)
+      (each_joined several order i server k client at_i found served)
 
   pub each_takes_one : EachTakesOne stores sources inputs outputs
   each_takes_one several client =

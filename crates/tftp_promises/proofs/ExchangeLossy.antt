@@ -30,12 +30,12 @@ one_port = refl
 -- what came had been sent just before, or one event before that
 honest : IsHonest programs (reverse exchange)
 honest = honest_if (ips programs) (IsStranger programs) (reverse exchange) (
-  comes_from (ips programs) (IsStranger programs) 1 0 refl refl (0, omega arith, refl),
+  comes_from _ (IsStranger programs) 1 0 refl refl (0, omega arith, refl),
   (
-    comes_from (ips programs) (IsStranger programs) 0 1 refl refl (1, omega arith, refl),
+    comes_from _ (IsStranger programs) 0 1 refl refl (1, omega arith, refl),
     (
-      comes_from (ips programs) (IsStranger programs) 1 0 refl refl (0, omega arith, refl),
-      (comes_from (ips programs) (IsStranger programs) 0 1 refl refl (1, omega arith, refl), (comes_from (ips programs) (IsStranger programs) 1 0 refl refl (0, omega arith, refl), tt)),
+      comes_from _ (IsStranger programs) 1 0 refl refl (0, omega arith, refl),
+      (comes_from _ (IsStranger programs) 0 1 refl refl (1, omega arith, refl), (comes_from _ (IsStranger programs) 1 0 refl refl (0, omega arith, refl), tt)),
     ),
   ),
 )
@@ -106,8 +106,8 @@ bounded = record {
   bounded = record {
     to_y = arrive true false reader read_port (read_by reading_2 []).end;
     to_x = arrive false true read_port reader dallying;
-    x_handles = (tt, (tt, (tt, (tt, (tt, (tt, (tt, tt)))))));
-    y_handles = (tt, (tt, (tt, (tt, tt))));
+    x_handles = search rules;
+    y_handles = search rules;
     x_prompt = promptly true read_port;
     y_prompt = promptly false reader;
     x_retries = omega arith;

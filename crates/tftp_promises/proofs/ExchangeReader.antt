@@ -1,6 +1,6 @@
 -- What the steps of the exchange have in common: packets that are spelled, and files in memory.
-use Rattle.tftp_promises.proofs.Common.{List, ℕ, ◌≡◌, rules, sym, refl, [], Some, inl, inr, ◌∷◌, false, true, EndState}
-use Rattle.tftp_promises.proofs.Common.{Files, true≢false, arith, Turn, State, Sink, Spells, after_turn, ◌<◌, Ok}
+use Rattle.tftp_promises.proofs.Common.{List, ℕ, ◌≡◌, rules, refl, [], Some, inl, ◌∷◌, false, true, EndState}
+use Rattle.tftp_promises.proofs.Common.{Files, arith, Turn, State, Sink, Spells, after_turn, ◌<◌, Ok}
 use Rattle.tftp_promises.proofs.Common.{timeout_turn, DatagramStep, Receives_one, ClientDoes, Ack, Answers, Waits_until}
 use Rattle.tftp_promises.proofs.Common.{Goes_on, Starts, begun, Times_out, Terms, To_read, Read, Data, ClientProgram}
 use Rattle.tftp_promises.proofs.Common.{Elapses, request_of, Oack, response_turn, ◌^◌, data_bytes, oack_bytes}
@@ -117,10 +117,7 @@ stores_so = record {
         commits = refl;
         refused = tt;
         leaves = tt;
-        effect = λ must. elim must [
-          | inl refuses ↦ absurd (true≢false (sym refuses))
-          | inr refuses ↦ absurd (true≢false (sym refuses))
-        ];
+        effect = search rules;
         answers = refl;
       };
     },
@@ -151,22 +148,18 @@ ClientSteps s files s' files' = ClientDoes memory_source memory_sink 5000 s file
 
 unfoldable pub accepts_does : ClientSteps s0 empty s1 empty
 accepts_does =
-    Receives_one {watch = read_at 10} (record { not_closed = λ o. absurd (true≢false (sym o)); due = λ late. absurd (omega (arith, late)) })
-    (record { time = refl; forward = omega arith }) (Answers (λ o. absurd (true≢false (sym o))) accepts_so)
+    Receives_one {watch = read_at 10} (search rules) (search rules) (Answers (search rules) accepts_so)
 
 unfoldable pub waits_does : ClientSteps s1 empty s2 empty
 waits_does =
-    Waits_until {event = Empty 5000} {watch = read_at 1000}
-    (record { not_closed = λ o. absurd (true≢false (sym o)); due = λ late. absurd (omega (arith, late)) }) (inl refl)
-    (record { time = refl; forward = omega arith })
+    Waits_until {event = Empty 5000} {watch = read_at 1000} (search rules) (inl refl) (search rules)
 
 unfoldable pub times_does : ClientSteps s2 empty s3 empty
-times_does = Times_out (Elapses (omega arith) (λ o. absurd (true≢false (sym o))))
+times_does = Times_out (Elapses (omega arith) (search rules))
 
 unfoldable pub stores_does : ClientSteps s3 empty s4 (Sink stored)
 stores_does =
-    Receives_one {watch = read_at 1010} (record { not_closed = λ o. absurd (true≢false (sym o)); due = λ late. absurd (omega (arith, late)) })
-    (record { time = refl; forward = omega arith }) (Answers (λ o. absurd (true≢false (sym o))) stores_so)
+    Receives_one {watch = read_at 1010} (search rules) (search rules) (Answers (search rules) stores_so)
 
 abbrev pub reading : ClientProgram memory_source memory_sink requests
 reading = record {

@@ -4,7 +4,7 @@ use Rattle.tftp_promises.proofs.Common.{Files, true≢false, arith, LoopState, l
 use Rattle.tftp_promises.proofs.Common.{Received, at, Run, Turn, Source, Then, Start, ServerState, ◌≤◌, after_turn, ◌<◌}
 use Rattle.tftp_promises.proofs.Common.{Ok, A_transfer, IsBlockSize, with_next, Ack, answered, PortState, left_by}
 use Rattle.tftp_promises.proofs.Common.{Config, Terms, Read, request_of, At_port, A_datagram, serving_read, AreSame}
-use Rattle.tftp_promises.proofs.Common.{response_turn, files_in, ⊤, is_closed, data_bytes, oack_bytes, at_start}
+use Rattle.tftp_promises.proofs.Common.{response_turn, files_in, ⊤, is_closed, oack_bytes, at_start}
 use Rattle.tftp_promises.proofs.Common.{LoopConfig, StepIn, agreed_terms, memory_source, ServerProgram, AsksToRead}
 use Rattle.tftp_promises.proofs.Common.{Timer, slice_set, ack_bytes, reader, memory_meaning, read_file, blocks_of_8}
 use Rattle.tftp_promises.proofs.Common.{Complete, filled_turn, Request_received, Constant, agreed, read_request}
@@ -108,20 +108,6 @@ s2 = record s1 {
   events = Sent 1024 reader (oack_bytes agreed) ∷ s1.events;
 }
 
-abbrev pub s3 : Loop
-s3 = record s2 {
-  server = serving ((1024, read_by reading_1 []) ∷ []);
-  timers = timed 1 ∷ [];
-  events = Sent 1024 reader (data_bytes 1 read_file) ∷ Received 1024 reader (ack_bytes 0) ∷ s2.events;
-}
-
-abbrev pub s4 : Loop
-s4 = record s3 {
-  server = serving ((1024, read_by reading_2 []) ∷ []);
-  timers = timed 2 ∷ [];
-  events = Received 1024 reader (ack_bytes 1) ∷ s3.events;
-}
-
 -- The server of the exchange, step by step.
 
 -- ---- the steps
@@ -129,7 +115,7 @@ abbrev Step : Loop → Loop → Type 0
 Step old new = LoopStep memory_meaning memory_source old new
 
 -- the transfer handles a datagram of the reader by this turn, with this file after it
-module _ (old : Loop) (timer : Timer) (transfer : Held) (bytes : List ℕ) (turn : Turn) (outgoing : Outgoing)
+module _ (old : Loop) (timer : Timer) (transfer : Held) (bytes : List ℕ) (turn : Turn)
     (files : Files (List ℕ) Drafted) where
   abbrev handled : Held
   handled = record transfer { end = after_turn transfer.end turn; files = files }
@@ -141,19 +127,22 @@ module _ (old : Loop) (timer : Timer) (transfer : Held) (bytes : List ℕ) (turn
     events = answered timer.port turn.reply (Received timer.port reader bytes ∷ old.events);
   }
 
-  unfoldable pub handles : old.now ≤ timer.age_limit → timer.received < most_in_round → 0 < length old.timers →
+  abbrev pub after_it : Loop
+  after_it = record old {
+    server = port_after.server;
+    timers = slice_set old.timers 0 port_after.timer;
+    events = port_after.events;
+  }
+
+  unfoldable pub handles : (outgoing : Outgoing) → old.now ≤ timer.age_limit → timer.received < most_in_round → 0 < length old.timers →
       timer ≡ slice_index_or old.timers 0 timer → at timer.port old.server.held ≡ Some transfer →
       is_closed transfer ≡ false → StepIn memory_meaning memory_source reader bytes transfer.end
       (files_in old.server.store transfer.path old.server.config.overwrite transfer.files) turn
       (files_in old.server.store transfer.path old.server.config.overwrite files) →
       lent outgoing (after_turn transfer.end turn) ≡ reply_bytes turn.reply →
       KeepsStore transfer.files old.server.store old.server.store →
-      AreSame (λ (a b : List ℕ). ⊤) (λ (a b : Drafted). ⊤) transfer.files files → Step old (record old {
-        server = port_after.server;
-        timers = slice_set old.timers 0 port_after.timer;
-        events = port_after.events;
-      })
-  handles in_time few within is_timer found still steps lends stays kind = At_port (record {
+      AreSame (λ (a b : List ℕ). ⊤) (λ (a b : Drafted). ⊤) transfer.files files → Step old after_it
+  handles outgoing in_time few within is_timer found still steps lends stays kind = At_port (record {
     index = 0;
     timer = timer;
     within = within;
@@ -191,6 +180,12 @@ module _ (old : Loop) (timer : Timer) (transfer : Held) (bytes : List ℕ) (turn
     });
     is = refl;
   })
+
+abbrev pub s3 : Loop
+s3 = after_it s2 (timed 0) (read_by reading_0 read_file) (ack_bytes 0) sends (Source [])
+
+abbrev pub s4 : Loop
+s4 = after_it s3 (timed 1) (read_by reading_1 []) (ack_bytes 1) completes (Source [])
 
 unfoldable pub asks_to_read : Step s0 s1
 asks_to_read = Request_received
@@ -260,7 +255,7 @@ reads_block = record {
 
 unfoldable pub sends_block : Step s2 s3
 sends_block =
-    handles s2 (timed 0) (read_by reading_0 read_file) (ack_bytes 0) sends LastSent (Source []) (omega arith)
+    handles s2 (timed 0) (read_by reading_0 read_file) (ack_bytes 0) sends (Source []) LastSent (omega arith)
     (omega arith) (omega arith) refl refl refl reads_block refl refl tt
 
 -- it is acknowledged
@@ -269,7 +264,7 @@ is_acknowledged = record { decoded = Some (Ack 1); says = ack_spelled 1 (omega a
 
 unfoldable pub completes_read : Step s3 s4
 completes_read =
-    handles s3 (timed 1) (read_by reading_1 []) (ack_bytes 1) completes Nothing (Source []) (omega arith) (omega arith)
+    handles s3 (timed 1) (read_by reading_1 []) (ack_bytes 1) completes (Source []) Nothing (omega arith) (omega arith)
     (omega arith) refl refl refl is_acknowledged refl refl tt
 
 pub agreeable : IsBlockSize config.limits.max_block

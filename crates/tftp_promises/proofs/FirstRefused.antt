@@ -4,16 +4,13 @@ use Rattle.tftp_promises.proofs.Common.{List, ℕ, ◌≡◌, rules, sym, Endpoi
 use Rattle.tftp_promises.proofs.Common.{inl, inr, ◌∷◌, SinkMeaning, None, EndState, ◌⊎◌, Files, Option, outcome_of}
 use Rattle.tftp_promises.proofs.Common.{same_Some, Turn, State, timeout_turn, DatagramStep, Receives_one, Outcome}
 use Rattle.tftp_promises.proofs.Common.{peer_of, Action, Act, Answers, Acts, Respond, datagram_action, TakesOwn, Has}
-use Rattle.tftp_promises.proofs.Common.{Waits_until, Goes_on, ClientRun, Starts, Times_out, acts_in, HandlesReceived}
-use Rattle.tftp_promises.proofs.Common.{Loses, Took, File_works, Prints_line, Reads_clock, Elapses, Packet, Lost, Timed}
-use Rattle.tftp_promises.proofs.Common.{response_turn, Asked, MayElapse, Stays, with_reply, IsSome, received, Accept}
-use Rattle.tftp_promises.proofs.Common.{Response, Refuse, Waiting, IsOpen, HandlesOwn, Decodes, Close, Watch}
-use Rattle.tftp_promises.proofs.Common.{IsOtherAnswer, Complete, Position, Wait, timeout_response, MayWait, IsReadBy}
-use Rattle.tftp_promises.proofs.Common.{line_printed, renewed}
+use Rattle.tftp_promises.proofs.Common.{Goes_on, ClientRun, Starts, Times_out, acts_in, HandlesReceived, Loses, Took}
+use Rattle.tftp_promises.proofs.Common.{Elapses, Packet, Lost, Timed, response_turn, Asked, MayElapse, Stays}
+use Rattle.tftp_promises.proofs.Common.{with_reply, IsSome, received, Accept, Response, Refuse, Waiting, IsOpen}
+use Rattle.tftp_promises.proofs.Common.{HandlesOwn, Decodes, Close, Watch, IsOtherAnswer, Complete, Position, Wait}
+use Rattle.tftp_promises.proofs.Common.{timeout_response, MayWait, IsReadBy, ClientOpens, To_read, To_write}
 use Rattle.tftp_ends.specs.Phase.{waited}
 use Rattle.tftp_lives.proofs.Stands.{has_more}
-use Rattle.tftp_client.specs.Converses.{waited as has_waited}
-use Rattle.tftp_ends.specs.declared.error_reply.ErrorReply.TheVariants as replies
 use Rattle.tftp_ends.specs.declared.outcome.Outcome.TheVariants as outcomes
 use Rattle.tftp_promises.proofs.ClientTraces.{run_role}
 use Rattle.tftp_promises.proofs.ClosedEnds.{datagram_stays, timeout_stays}
@@ -25,6 +22,22 @@ ClosesBy o (Respond (Close outcome)) = outcome ≡ o
 ClosesBy o (Respond (Refuse None reply outcome)) = outcome ≡ o
 ClosesBy o (Respond Complete) = o ≡ outcomes.Complete
 ClosesBy o action = ⊥
+
+-- ---- what a client asked for, and the limit of its file
+module _ {G K : Type 0} {inputs : SourceMeaning G} {outputs : SinkMeaning K} {to : Endpoint} {first : EndState}
+    {file : Files G K} where
+  abbrev pub asked_in : ClientOpens inputs outputs to first file → Asked
+  asked_in (To_read opens) = opens.asked
+  asked_in (To_write opens) = opens.asked
+
+  abbrev pub limit_in : ClientOpens inputs outputs to first file → ℕ
+  limit_in (To_read opens) = opens.limit
+  limit_in (To_write opens) = opens.limit
+
+  pub waits_first : (opens : ClientOpens inputs outputs to first file) →
+      first.position.phase ≡ Waiting (asked_in opens) (limit_in opens)
+  waits_first (To_read opens) = ap (λ (e : EndState). e.position.phase) opens.is
+  waits_first (To_write opens) = ap (λ (e : EndState). e.position.phase) opens.is
 
 -- ---- one turn of an end that waits
 -- its newest datagram is the same
@@ -98,18 +111,14 @@ module _ (ip others : List ℕ) (begin : State) (asked : Asked) (limit : ℕ) wh
   abbrev RefusedBy : Outcome → List Act → Type 0
   RefusedBy o acts = IsRefused ip others begin.end asked limit o acts
 
-  -- it waits as it did at first
-  abbrev IsWaiting : State → Type 0
-  IsWaiting s = s.end.position.phase ≡ begin.end.position.phase
-
-  -- or it has closed, for want of an answer or at one
-  abbrev HasClosed : State → List Act → Type 0
-  HasClosed s acts =
-      (o : Outcome) × (outcome_of s.end.position.phase ≡ Some o) × ((o ≡ outcomes.TimedOut) ⊎ RefusedBy o acts)
+  -- it waits as it did at first, or it has closed, for want of an answer or at one
+  abbrev SoFar : Position → List Act → Type 0
+  SoFar position acts =
+      IsSame position begin.end.position × ((position.phase ≡ begin.end.position.phase)
+      ⊎ ((o : Outcome) × (outcome_of position.phase ≡ Some o) × ((o ≡ outcomes.TimedOut) ⊎ RefusedBy o acts)))
 
   abbrev Without : State → List Act → Type 0
-  Without s acts =
-      peer_of s.end.position.phase ≡ None → IsSame s.end.position begin.end.position × (IsWaiting s ⊎ HasClosed s acts)
+  Without s acts = peer_of s.end.position.phase ≡ None → SoFar s.end.position acts
 
   -- a step that changes no end
   rests : (s next : State) (acts more : List Act) → next.end ≡ s.end → ((act : Act) → Has act acts → Has act more) →
@@ -126,14 +135,9 @@ module _ (ip others : List ℕ) (begin : State) (asked : Asked) (limit : ℕ) wh
       abbrev acts : List Act
       acts = with_reply turn.reply (Took from bytes ∷ acts_in run)
 
-      -- how it is after the turn
-      abbrev Turned : Type 0
-      Turned =
-          IsSame turn.position begin.end.position × ((turn.position.phase ≡ begin.end.position.phase)
-          ⊎ ((o : Outcome) × (outcome_of turn.position.phase ≡ Some o) × ((o ≡ outcomes.TimedOut) ⊎ RefusedBy o acts)))
-
-      waiting_turns : peer_of s.end.position.phase ≡ None → IsSame s.end.position begin.end.position → IsWaiting s →
-          peer_of turn.position.phase ≡ None → Turned
+      waiting_turns : peer_of s.end.position.phase ≡ None → IsSame s.end.position begin.end.position →
+          s.end.position.phase ≡ begin.end.position.phase → peer_of turn.position.phase ≡ None →
+          SoFar turn.position acts
       waiting_turns none same waiting after =
           let leads =
           acts_lead s.end asked limit (waiting ∙ waits) from inputs outputs bytes
@@ -162,7 +166,8 @@ module _ (ip others : List ℕ) (begin : State) (asked : Asked) (limit : ℕ) wh
             ],
           )
 
-      turns_by : (o : Option Endpoint) → peer_of s.end.position.phase ≡ o → peer_of turn.position.phase ≡ None → Turned
+      turns_by : (o : Option Endpoint) → peer_of s.end.position.phase ≡ o → peer_of turn.position.phase ≡ None →
+          SoFar turn.position acts
       turns_by (Some peer) is after =
           no_peer peer
           (sym ((datagram_stays inputs outputs from s.end bytes step.decoded files turn files' step.acts peer is).peer_is
@@ -177,10 +182,7 @@ module _ (ip others : List ℕ) (begin : State) (asked : Asked) (limit : ℕ) wh
     -- ---- a timeout
     times : {s : State} {files : Files G K} (run : ClientRun inputs outputs port begin file s files) → IsOpen s.end → Without s (acts_in run) →
         (more : List Act) → peer_of (timeout_turn s.end).position.phase ≡ None →
-        IsSame (timeout_turn s.end).position begin.end.position
-        × (((timeout_turn s.end).position.phase ≡ begin.end.position.phase)
-        ⊎ ((o : Outcome) × (outcome_of (timeout_turn s.end).position.phase ≡ Some o)
-        × ((o ≡ outcomes.TimedOut) ⊎ RefusedBy o more)))
+        SoFar (timeout_turn s.end).position more
     times {s} run still h more none = search (rules, timeout_stays, timeout_leads, open_none)
 
     -- ---- along a run
@@ -203,15 +205,9 @@ module _ (ip others : List ℕ) (begin : State) (asked : Asked) (limit : ℕ) wh
     without Starts own = λ none. ((refl, refl), inl refl)
     without (Goes_on run (Receives_one may later handles)) own =
         answered run (without run own.0) may later handles own.1
-    without (Goes_on {s} run (Reads_clock progress {watch} later)) own =
-        rests s (renewed progress watch s) (acts_in run) (acts_in run) refl (λ act has. has) (without run own.0)
-    without (Goes_on {s} run (Waits_until {event} {watch} may which later)) own =
-        rests s (has_waited event watch s) (acts_in run) (acts_in run) refl (λ act has. has) (without run own.0)
     without (Goes_on run (Times_out elapses)) own = elapsed_so run (without run own.0) elapses
-    without (Goes_on {s} run (File_works works)) own =
-        rests s s (acts_in run) (acts_in run) refl (λ act has. has) (without run own.0)
-    without (Goes_on {s} run (Prints_line line)) own =
-        rests s (line_printed line s) (acts_in run) (acts_in run) refl (λ act has. has) (without run own.0)
+    without (Goes_on {s} {s'} run does) own =
+        rests s s' (acts_in run) (acts_in run) refl (λ act has. has) (without run own.0)
 
     -- one that has no peer and closed otherwise than for want of an answer
     pub refused_at : {s : State} {files : Files G K} (run : ClientRun inputs outputs port begin file s files) → TakesOwn ip others run →

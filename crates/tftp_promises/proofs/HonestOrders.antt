@@ -1,12 +1,12 @@
 -- What a program received in an order of an honest network was sent to it by one of the programs, or may come though none
 -- sent it. For the law a_client_ends_for_a_reason.
-use Rattle.tftp_promises.proofs.Common.{List, ℕ, ◌≡◌, rules, sym, Endpoint, refl, [], ◌∙◌, ap, SourceMeaning, Some}
-use Rattle.tftp_promises.proofs.Common.{subst, inl, StoreMeaning, inr, ◌∷◌, SinkMeaning, Programs, Bool, ◌⊎◌, Contains}
-use Rattle.tftp_promises.proofs.Common.{SocketEvent, arith, slice_get, Sent, ClientOf, if◌then◌else◌, client_at}
-use Rattle.tftp_promises.proofs.Common.{Received, endpoint, same_Some, suc, moved_in, Noted, ◌==◌, zero, requests_at}
-use Rattle.tftp_promises.proofs.Common.{all_of, WasSentBefore, Has_asked, events_of, Contains-append_cases, Has}
-use Rattle.tftp_promises.proofs.Common.{ClientStage, MayCome, IsHonest, eqb-true, slice_get-map, CanCome, IsOrder}
-use Rattle.tftp_promises.proofs.Common.{option_map, IsAt}
+use Rattle.tftp_promises.proofs.Common.{List, ℕ, ◌≡◌, rules, sym, Endpoint, refl, [], ◌∙◌, ap, SourceMeaning, Some, inl}
+use Rattle.tftp_promises.proofs.Common.{StoreMeaning, inr, ◌∷◌, SinkMeaning, Programs, Bool, ◌⊎◌, Contains, SocketEvent}
+use Rattle.tftp_promises.proofs.Common.{arith, slice_get, Sent, ClientOf, if◌then◌else◌, client_at, Received, endpoint}
+use Rattle.tftp_promises.proofs.Common.{same_Some, suc, moved_in, Noted, ◌==◌, zero, requests_at, all_of, WasSentBefore}
+use Rattle.tftp_promises.proofs.Common.{Has_asked, events_of, Contains-append_cases, Has, ClientStage, MayCome}
+use Rattle.tftp_promises.proofs.Common.{IsHonest, eqb-true, slice_get-map, CanCome, IsOrder, option_map, IsAt, is_at}
+use Rattle.tftp_promises.proofs.Common.{at}
 use Rattle.tftp_promises.proofs.ClientTraces.{sent_own}
 use Rattle.tftp_promises.proofs.Orders.{later_in, mapped, noted_in, one_in}
 
@@ -66,9 +66,7 @@ module _ {S F D G K : Type 0} {stores : StoreMeaning S D} {sources : SourceMeani
     sent_by : (program port : ℕ) (from to : Endpoint) (bytes : List ℕ) → IsAt programs program port from →
         Contains order (program, Sent port to bytes) → SentBy from to bytes
     sent_by zero port from to bytes at i =
-        let there =
-        subst (λ (es : List SocketEvent). Contains es (Sent port to bytes)) is_order.server
-        (noted_in 0 (Sent port to bytes) order i) in
+        let there = rw is_order.server at (noted_in 0 (Sent port to bytes) order i) in
         let same = same_Some programs.ip at.0 at.1 in
         record {
           before =
@@ -83,9 +81,7 @@ module _ {S F D G K : Type 0} {stores : StoreMeaning S D} {sources : SourceMeani
         let m =
         mapped (λ (c : Client). c.ip) (slice_get programs.clients k) at.0
         (sym (slice_get-map (λ (c : Client). c.ip) programs.clients k) ∙ at.1) in
-        let there =
-        subst (λ (es : List SocketEvent). Contains es (Sent port to bytes)) (is_order.clients k m.0 m.1)
-        (noted_in (suc k) (Sent port to bytes) order i) in
+        let there = rw (is_order.clients k m.0 m.1) at (noted_in (suc k) (Sent port to bytes) order i) in
         let from_is : from ≡ endpoint m.0.ip port = at.2 ∙ ap (λ (ip : List ℕ). endpoint ip port) (sym m.2) in
         record {
           before =
@@ -113,11 +109,10 @@ module _ {S F D G K : Type 0} {stores : StoreMeaning S D} {sources : SourceMeani
         ((to : Endpoint) → IsAt programs program port to → to ≡ a) →
         ComesAt order program (Received port from bytes) → ComesTo from a bytes
     came_to program port a from bytes is_at h =
-        let to_is = is_at h.comes.0 h.comes.1 in
         elim h.comes.2 [
           | inl sent ↦
-              inl (subst (λ (to : Endpoint). SentBy from to bytes) to_is
-              (sent_by sent.program sent.port from h.comes.0 bytes sent.is_at (h.before (sent.program, Sent sent.port h.comes.0 bytes) sent.sent)))
+              inl (rw (is_at h.comes.0 h.comes.1) at (sent_by sent.program sent.port from h.comes.0 bytes sent.is_at
+              (h.before (sent.program, Sent sent.port h.comes.0 bytes) sent.sent)))
           | inr may ↦ inr may
         ]
 
@@ -132,8 +127,7 @@ module _ {S F D G K : Type 0} {stores : StoreMeaning S D} {sources : SourceMeani
         ∙ at.1 in
         at.2 ∙ ap (λ (ip : List ℕ). endpoint ip client.port) (sym (same_Some client.ip at.0 ip_is)))
         (comes_at order honest (suc k) (Received client.port from bytes)
-        (subst (λ (es : List SocketEvent). Has (Received client.port from bytes) es) (sym (is_order.clients k client found))
-        there))
+        (rw (is_order.clients k client found) there))
 
     -- the server, at its request port
     pub came_to_server : (from : Endpoint) (bytes : List ℕ) →
@@ -142,4 +136,4 @@ module _ {S F D G K : Type 0} {stores : StoreMeaning S D} {sources : SourceMeani
         came_to 0 programs.port (requests_at programs) from bytes
         (λ to at. at.2 ∙ ap (λ (ip : List ℕ). endpoint ip programs.port) (sym (same_Some programs.ip at.0 at.1)))
         (comes_at order honest 0 (Received programs.port from bytes)
-        (subst (λ (es : List SocketEvent). Has (Received programs.port from bytes) es) (sym is_order.server) there))
+        (rw is_order.server there))

@@ -1,6 +1,6 @@
 -- The transfer at an identifier, after another one took its place or one was removed.
-use Rattle.tftp_promises.proofs.Common.{List, ℕ, ◌≡◌, rules, sym, refl, [], ◌∙◌, ap, Some, inl, inr, ◌∷◌, false, true}
-use Rattle.tftp_promises.proofs.Common.{None, Bool, ◌⊎◌, true≢false, ◌≢◌, same_Some, at, cases_eq, with_next, numbers}
+use Rattle.tftp_promises.proofs.Common.{List, ℕ, ◌≡◌, rules, sym, refl, [], ◌∙◌, ap, Some, inl, inr, ◌∷◌, false, None}
+use Rattle.tftp_promises.proofs.Common.{Bool, ◌⊎◌, true≢false, ◌≢◌, same_Some, at, cases_eq, with_next, numbers}
 use Rattle.tftp_promises.proofs.Common.{without, with_new, is_at, cond, nat_cmp, lookup-insert_other}
 use Rattle.tftp_promises.proofs.Common.{lookup-remove_other, lookup-set_same, Equal, Ordering, is_eq, match_ordering}
 use Rattle.tftp_promises.proofs.Common.{Less, Greater, lookup-insert_same, lookup-set_other}
@@ -67,8 +67,7 @@ module _ {T : Type 0} where
 
   out_once : (e : ℕ × T) (held more : List (ℕ × T)) (b : Bool) → AreKeyedOnce (e ∷ held) → at e.0 more ≡ None →
       AreKeyedOnce more → AreKeyedOnce (cond b held (e ∷ more))
-  out_once e held more true once none rest = once.1
-  out_once e held more false once none rest = (none, rest)
+  out_once e held more b once none rest = search rules
 
   -- no identifier is there twice
   pub once-without : (tid : ℕ) (held : List (ℕ × T)) → AreKeyedOnce held → AreKeyedOnce (without tid held)

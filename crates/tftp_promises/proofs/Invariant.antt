@@ -10,11 +10,12 @@ use Rattle.tftp_promises.proofs.Common.{Spells, Message, moved_in, EndView, requ
 use Rattle.tftp_promises.proofs.Common.{IsShown, all_of, our_ports, WasSentBefore, Has_asked, place_at, moved_at}
 use Rattle.tftp_promises.proofs.Common.{peer_of, IsAmong, opened_at, WireRequest, ClientStage, HasClosed, GaveSince}
 use Rattle.tftp_promises.proofs.Common.{Network, EndKept, requested, IsUnblamed, slice_get-map, Opening, Unasked}
-use Rattle.tftp_promises.proofs.Common.{wire_text, path_of_name, AreDistinct, option_map, StoreOpened, TakesInTurn}
-use Rattle.tftp_promises.proofs.Common.{above, HadStore, WasCommitted, StoreBegan}
-pub use Rattle.tftp_rules.specs.EndShown.{IsThere, HasArrived}
+use Rattle.tftp_promises.proofs.Common.{wire_text, path_of_name, option_map, StoreOpened, TakesInTurn, above, HadStore}
+use Rattle.tftp_promises.proofs.Common.{WasCommitted, StoreBegan, ⊤, Role, nothing_moved, inl, inr, sym}
+use Rattle.tftp_promises.specs.Openings.{AreEndsApart}
 use Rattle.tftp_promises.proofs.Places.{places}
 use Rattle.tftp_promises.proofs.Texts.{pad_to}
+pub use Rattle.tftp_rules.specs.EndShown.{IsThere, HasArrived}
 
 -- no identifier is there twice
 abbrev pub AreKeyedOnce : {T : Type 0} → List (ℕ × T) → Type 0
@@ -49,6 +50,18 @@ pub record TookBy {S D : Type 0} (stores : StoreMeaning S D) (HasBeen : S → Ty
   pub going : outcome_of x.state.position.phase ≡ None → x.committed ≡ false → TakesInTurn stores first bytes last
   pub done : x.committed ≡ true → WasCommitted stores HasBeen path replace first bytes
 
+-- what is known of the file of an end with what has moved: of a source, or of a sink
+abbrev pub FileSo : {S K : Type 0} → (S → OpenEnd → Moved → Type 0) → (K → OpenEnd → Moved → Type 0) → Files S K →
+    OpenEnd → Moved → Type 0
+FileSo Given Taken (Source source) x moved =
+    (is_sender x.state.role.side ≡ true) × GaveSo x moved × Given source x moved
+FileSo Given Taken (Sink sink) x moved =
+    (is_sender x.state.role.side ≡ false) × TookSo x moved × Taken sink x moved
+
+-- a sink of which no more is known
+abbrev pub AnySink : {K : Type 0} → K → OpenEnd → Moved → Type 0
+AnySink sink x moved = ⊤
+
 -- the request of a transfer is for its path
 pub record IsNamed (there bytes : List ℕ) : Type 0 where
   pub write : Bool
@@ -60,6 +73,11 @@ pub record IsNamed (there bytes : List ℕ) : Type 0 where
 pub named_still : {there there' bytes bytes' : List ℕ} → there' ≡ there → bytes' ≡ bytes → IsNamed there bytes →
     IsNamed there' bytes'
 named_still {there = there} {bytes' = bytes'} same is h = search rules
+
+-- what a client has moved
+abbrev pub moved_by : {G K : Type 0} → ClientStage G K → Moved
+moved_by Unasked = nothing_moved
+moved_by (Has_asked s files noted moved) = moved
 
 -- the length of a transfer's file, as it was measured when the transfer opened
 abbrev pub length_of : {F D : Type 0} → Option (TransferState F D) → ℕ
@@ -88,27 +106,16 @@ module _ {S F D G K : Type 0} {stores : StoreMeaning S D} {sources : SourceMeani
         wire_text mode file ≡ place_text pad a
 
   -- a client's source has given since what was sent
-  pub record ClientGiven (client : ClientOf programs) (x : OpenEnd) (source : G) (moved : Moved) : Type 0 where
+  pub record ClientGiven (client : ClientOf programs) (source : G) (x : OpenEnd) (moved : Moved) : Type 0 where
     pub first : G
     pub is_first : client.file ≡ Source first
     pub since : GaveSince inputs first x.state moved.bytes source
 
-  pub record ClientGave (pad : ℕ) (client : ClientOf programs) (x : OpenEnd) (source : G) (moved : Moved) : Type 0 where
-    pub sender : is_sender x.state.role.side ≡ true
-    pub role : x.state.role ≡ client.first.role
-    pub text : x.text ≡ client_text pad client
-    pub gave : GaveSo x moved
-    pub given : ClientGiven client x source moved
-
-  -- one that receives
-  pub record ClientTook (x : OpenEnd) (moved : Moved) : Type 0 where
-    pub receiver : is_sender x.state.role.side ≡ false
-    pub took : TookSo x moved
-
   -- what is known of the file of a client's end
-  abbrev pub HasFile : ℕ → ClientOf programs → OpenEnd → Files G K → Moved → Type 0
-  HasFile pad client x (Source source) moved = ClientGave pad client x source moved
-  HasFile pad client x (Sink sink) moved = ClientTook x moved
+  pub record HasFile (pad : ℕ) (client : ClientOf programs) (x : OpenEnd) (files : Files G K) (moved : Moved) : Type 0 where
+    pub role : x.state.role ≡ client.first.role
+    pub text : is_sender x.state.role.side ≡ true → x.text ≡ client_text pad client
+    pub file : FileSo (ClientGiven client) AnySink files x moved
 
   -- the end of a client that has asked
   pub record ClientKept (pad : ℕ) (views : List EndView) (messages : List Message) (client : ClientOf programs)
@@ -149,39 +156,31 @@ module _ {S F D G K : Type 0} {stores : StoreMeaning S D} {sources : SourceMeani
 
   module _ {state : LoopState S F D} (run : Run (LoopStep stores sources) programs.server.start state) where
     -- what a run, the server's so far, says of a transfer at its place: it was opened so
-    pub record IsOpened (x : OpenEnd) : Type 0 where
+    pub record IsOpened (a : Endpoint) (its_path : List ℕ) (its_role : Role) : Type 0 where
       pub opening : TransferState F D
-      pub opened : opened_at programs x.address run ≡ Some opening
-      pub path : opening.path ≡ x.path
-      pub role : opening.end.role ≡ x.state.role
+      pub opened : opened_at programs a run ≡ Some opening
+      pub path : opening.path ≡ its_path
+      pub role : opening.end.role ≡ its_role
 
     -- the store opened its file so, and its source has given since what was sent
-    pub record IsGiven (x : OpenEnd) (source : F) : Type 0 where
+    pub record IsGiven (source : F) (x : OpenEnd) (moved : Moved) : Type 0 where
       pub opening : Opening F
       pub first : StoreOpened run x.path x.request x.state.role.mode opening
       pub long : x.state.role.length ≡ opening.length
-      pub since : GaveSince sources opening.source x.state (moved_at programs x.address run).bytes source
-
-    -- what a transfer sends, and what it stored, by the run
-    pub record SendsMoved (pad : ℕ) (x : OpenEnd) (source : F) : Type 0 where
-      pub sender : is_sender x.state.role.side ≡ true
-      pub opened : IsOpened x
-      pub text : x.text ≡ place_text pad x.address
-      pub gave : GaveSo x (moved_at programs x.address run)
-      pub given : IsGiven x source
+      pub since : GaveSince sources opening.source x.state moved.bytes source
 
     -- the store began its draft so, and that has taken since what was handed to it
-    pub record IsTaken (x : OpenEnd) (draft : D) : Type 0 where
+    pub record IsTaken (draft : D) (x : OpenEnd) (moved : Moved) : Type 0 where
       pub first : D
       pub began : StoreBegan run x.path x.request x.state.role.mode programs.server.start.server.config.overwrite first
-      pub since : TookBy stores (HadStore run) x.path programs.server.start.server.config.overwrite first x
-          (moved_at programs x.address run).bytes draft
+      pub since : TookBy stores (HadStore run) x.path programs.server.start.server.config.overwrite first x moved.bytes
+          draft
 
-    pub record StoresMoved (x : OpenEnd) (draft : D) : Type 0 where
-      pub receiver : is_sender x.state.role.side ≡ false
-      pub opened : IsOpened x
-      pub took : TookSo x (moved_at programs x.address run)
-      pub taken : IsTaken x draft
+    -- what is known of the file of a transfer
+    pub record IsStored (pad : ℕ) (x : OpenEnd) (files : Files F D) : Type 0 where
+      pub opened : IsOpened x.address x.path x.state.role
+      pub text : is_sender x.state.role.side ≡ true → x.text ≡ place_text pad x.address
+      pub file : FileSo IsGiven IsTaken files x (moved_at programs x.address run)
 
 module _ {S F D G K : Type 0} {stores : StoreMeaning S D} {sources : SourceMeaning F} {inputs : SourceMeaning G}
     {outputs : SinkMeaning K} {programs : Programs stores sources inputs outputs} where
@@ -193,14 +192,12 @@ module _ {S F D G K : Type 0} {stores : StoreMeaning S D} {sources : SourceMeani
 
   -- what is known of the file of a transfer
   abbrev pub HasStored : ℕ → Snapshot programs → OpenEnd → Files F D → Type 0
-  HasStored pad snapshot x (Source source) = SendsMoved programs snapshot.run pad x source
-  HasStored pad snapshot x (Sink draft) = StoresMoved programs snapshot.run x draft
+  HasStored pad snapshot x files = IsStored programs snapshot.run pad x files
 
   -- so how it was opened
   pub stored_opened : (pad : ℕ) (snapshot : Snapshot programs) (x : OpenEnd) (files : Files F D) →
-      HasStored pad snapshot x files → IsOpened programs snapshot.run x
-  stored_opened pad snapshot x (Source source) has = has.opened
-  stored_opened pad snapshot x (Sink draft) has = has.opened
+      HasStored pad snapshot x files → IsOpened programs snapshot.run x.address x.path x.state.role
+  stored_opened pad snapshot x files has = has.opened
 
   -- the end of a transfer, held or removed, which is at its port, or a stranger's
   pub record TransferKept (pad : ℕ) (views : List EndView) (messages : List Message) (snapshot : Snapshot programs)
@@ -224,22 +221,33 @@ module _ {S F D G K : Type 0} {stores : StoreMeaning S D} {sources : SourceMeani
       HasStored pad snapshot' h.end transfer.files → TransferKept pad views' messages' snapshot' port transfer a
   same_transfer h viewed has = search rules
 
+  -- the same, by whether the server holds it still
+  abbrev pub StandsAt : Snapshot programs → Bool → ℕ → TransferState F D → Endpoint → Type 0
+  StandsAt snapshot true port transfer a =
+      (at port snapshot.state.server.held ≡ Some transfer) × (a ≡ place_at programs port snapshot.run)
+  StandsAt snapshot false port transfer a = HasClosed programs snapshot.run port transfer a
+
+  -- no two transfers, held or removed, are at one place
+  abbrev pub AreApart : Snapshot programs → Type 0
+  AreApart snapshot =
+      (g h : Bool) (p q : ℕ) (t u : TransferState F D) (a : Endpoint) → StandsAt snapshot g p t a →
+      StandsAt snapshot h q u a → (g ≡ h) × (p ≡ q) × (t ≡ u)
+
+  pub apart_once : (snapshot : Snapshot programs) → AreApart snapshot → (p q : ℕ) (t u : TransferState F D)
+      (a b : Endpoint) → HasTransferBy snapshot p t a → HasTransferBy snapshot q u b → a ≡ b → t ≡ u
+  apart_once snapshot apart p q t u a b (inl x) (inl y) same = (apart true true p q t u b (x.0, sym same ∙ x.1) y).2
+  apart_once snapshot apart p q t u a b (inl x) (inr y) same =
+      (apart true false p q t u b (x.0, sym same ∙ x.1) y).2
+  apart_once snapshot apart p q t u a b (inr x) (inl y) same = (apart false true p q t u a x (y.0, same ∙ y.1)).2
+  apart_once snapshot apart p q t u a b (inr x) (inr y) same = (apart false false p q t u b (rw (same) at x) y).2
+
   -- the server
   pub record ServerKept (messages : List Message) (snapshot : Snapshot programs) : Type 0 where
-    pub requests : snapshot.state.requests ≡ programs.port
-    pub config : snapshot.state.server.config ≡ programs.server.start.server.config
     pub pending : (from : Endpoint) (bytes : List ℕ) → snapshot.state.pending ≡ Some (from, bytes) →
         HasArrived messages from (requests_at programs) bytes
-    pub once : AreKeyedOnce snapshot.state.server.held
-    -- no two transfers that are held are at one place, and none is where one was removed
-    pub seats : (p q : ℕ) (t u : TransferState F D) → at p snapshot.state.server.held ≡ Some t →
-        at q snapshot.state.server.held ≡ Some u → place_at programs p snapshot.run ≡ place_at programs q snapshot.run →
-        p ≡ q
-    pub gone : (p q : ℕ) (t u : TransferState F D) (a : Endpoint) → HasClosed programs snapshot.run p t a →
-        at q snapshot.state.server.held ≡ Some u → a ≢ place_at programs q snapshot.run
-    -- nor were two removed from one place
-    pub gone_once : (p q : ℕ) (t u : TransferState F D) (a : Endpoint) → HasClosed programs snapshot.run p t a →
-        HasClosed programs snapshot.run q u a → (p ≡ q) × (t ≡ u)
+    pub apart : AreApart snapshot
+    pub once : (p q : ℕ) (t u : TransferState F D) (a b : Endpoint) → HasTransferBy snapshot p t a →
+        HasTransferBy snapshot q u b → a ≡ b → t ≡ u
     pub opened : (port : ℕ) (transfer : TransferState F D) (a : Endpoint) → HasTransferBy snapshot port transfer a →
         Contains (places programs snapshot.run) a
 
@@ -285,16 +293,9 @@ module _ {S F D G K : Type 0} {stores : StoreMeaning S D} {sources : SourceMeani
   -- what the steps need: ports of the clients' transfers so far that no two ends have, below the places of others, and
   -- that what has moved so far begins what moved in all
   pub record IsFreshBy (snapshot : Snapshot programs) : Type 0 where
-    pub server : AreDistinct (programs.port ∷ our_ports programs snapshot.run)
+    pub ends : AreEndsApart programs (programs.port ∷ our_ports programs snapshot.run)
     pub below : (port : ℕ) → Contains (our_ports programs snapshot.run) port → port < above programs
-    pub clients : (j k : ℕ) (x y : ClientOf programs) → slice_get programs.clients j ≡ Some x →
-        slice_get programs.clients k ≡ Some y → client_at x ≡ client_at y → j ≡ k
-    pub apart : (k port : ℕ) (x : ClientOf programs) → slice_get programs.clients k ≡ Some x →
-        Contains (programs.port ∷ our_ports programs snapshot.run) port → client_at x ≢ endpoint programs.ip port
-    pub others : (port : ℕ) → Contains (programs.port ∷ our_ports programs snapshot.run) port →
-        Contains programs.others port → ⊥
     pub told : (a : Endpoint) → Contains (places programs snapshot.run) a → IsToldAt snapshot a
-    pub gave : (k : ℕ) (client : ClientOf programs) (s : State) (files : Files G K) (noted : List SocketEvent)
-        (moved : Moved) → slice_get programs.clients k ≡ Some client →
-        slice_get snapshot.clients k ≡ Some (Has_asked s files noted moved) →
-        IsPrefixOf moved.bytes (moved_in client.runs).bytes
+    pub gave : (k : ℕ) (client : ClientOf programs) (stage : ClientStage G K) →
+        slice_get programs.clients k ≡ Some client → slice_get snapshot.clients k ≡ Some stage →
+        IsPrefixOf (moved_by stage).bytes (moved_in client.runs).bytes

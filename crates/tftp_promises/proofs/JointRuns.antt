@@ -44,19 +44,23 @@ module _ {S F D G K : Type 0} {stores : StoreMeaning S D} {sources : SourceMeani
         old.events ≡ old_noted ++ programs.server.start.events → (does : LoopStep stores sources old new) →
         Split old.events new.events old_noted noted seen → ServerFits seen new (Then run does) noted
 
+  -- a client is here, having noted this, and its run so far takes no other server
+  record IsHere (client : Client) (s : State) (files : Files G K) (noted : List SocketEvent) : Type 0 where
+    run : Conversed client s files
+    own : TakesOwn programs.ip programs.others run
+    is : s.events ≡ noted ++ client.before
+
   -- what is seen may end with a wait of the next step, or in that step
   data ClientFits (client : Client) (seen : List SocketEvent) : ClientStage G K → Type 0 where
     Not_yet : seen ≡ [] → ClientFits client seen Unasked
-    Conversed_so : {s : State} {files : Files G K} {noted : List SocketEvent} (run : Conversed client s files) →
-        TakesOwn programs.ip programs.others run → s.events ≡ noted ++ client.before → (waits : List SocketEvent) →
-        AllByRecursion IsQuiet waits → waits ++ noted ≡ seen →
-        ClientFits client seen (Has_asked s files noted (moved_in run))
-    Conversing : {s s' : State} {files files' : Files G K} {noted : List SocketEvent} (old_noted : List SocketEvent)
-        (run : Conversed client s files) → TakesOwn programs.ip programs.others run →
-        s.events ≡ old_noted ++ client.before → (waits : List SocketEvent) → AllByRecursion IsQuiet waits →
+    Conversed_so : {s : State} {files : Files G K} {noted : List SocketEvent} (h : IsHere client s files noted)
+        (waits : List SocketEvent) → AllByRecursion IsQuiet waits → waits ++ noted ≡ seen →
+        ClientFits client seen (Has_asked s files noted (moved_in h.run))
+    Conversing : {s s' : State} {files files' : Files G K} {old_noted noted : List SocketEvent}
+        (h : IsHere client s files old_noted) (waits : List SocketEvent) → AllByRecursion IsQuiet waits →
         (does : ClientDoes inputs outputs client.port s files s' files') → DoesOwn programs.ip programs.others does →
         Split (waits ++ s.events) s'.events (waits ++ old_noted) noted seen →
-        ClientFits client seen (Has_asked s' files' noted (client_moves does (moved_in run)))
+        ClientFits client seen (Has_asked s' files' noted (client_moves does (moved_in h.run)))
 
   server_in : {seen : List SocketEvent} {state : LoopState S F D} {run : ServerRun state} {noted : List SocketEvent} (e : SocketEvent) →
       ServerFits seen state run noted → Contains seen e → Contains noted e
@@ -67,10 +71,10 @@ module _ {S F D G K : Type 0} {stores : StoreMeaning S D} {sources : SourceMeani
       (bytes : List ℕ) → ClientFits client seen stage → Contains seen (Sent port to bytes) →
       Contains (noted_by stage) (Sent port to bytes)
   client_in port to bytes (Not_yet none) i = subst (λ (es : List SocketEvent). Contains es (Sent port to bytes)) none i
-  client_in port to bytes (Conversed_so {noted = noted} run own is waits quiet seen_is) i =
+  client_in port to bytes (Conversed_so {noted = noted} h waits quiet seen_is) i =
       past_waits waits noted (Sent port to bytes) quiet (λ q. q)
       (subst (λ (es : List SocketEvent). Contains es (Sent port to bytes)) (sym seen_is) i)
-  client_in port to bytes (Conversing old_noted run own is waits quiet does so s) i = split_in (Sent port to bytes) s i
+  client_in port to bytes (Conversing h waits quiet does so s) i = split_in (Sent port to bytes) s i
 
   -- ---- all programs where their traces are seen so far
 
@@ -268,59 +272,32 @@ module _ {S F D G K : Type 0} {stores : StoreMeaning S D} {sources : SourceMeani
         (Client_does joint k client is_client (stage_is (Has_asked s files noted moved)) does so added is takes)
 
     -- the last step of the client has noted the event
-    client_steps : {s s' : State} {files files' : Files G K} {noted : List SocketEvent} (old_noted : List SocketEvent)
-        (run : Conversed client s files) → TakesOwn programs.ip programs.others run →
-        s.events ≡ old_noted ++ client.before → (waits : List SocketEvent) → AllByRecursion IsQuiet waits →
+    client_steps : {s s' : State} {files files' : Files G K} {old_noted noted : List SocketEvent}
+        (h : IsHere client s files old_noted) (waits : List SocketEvent) → AllByRecursion IsQuiet waits →
         (does : ClientDoes inputs outputs client.port s files s' files') → DoesOwn programs.ip programs.others does →
         Split (waits ++ s.events) s'.events (waits ++ old_noted) noted (e ∷ events_of (suc k) earlier) →
-        Joint (At (Has_asked s' files' noted (client_moves does (moved_in run))))
-    client_steps {s = s} {s' = s'} {files = files} {files' = files'} {noted = noted} old_noted run takes_own is waits quiet
-        does so (split ahead x [] others_are own added noted_is seen_is) =
-        let h = heads e x (events_of (suc k) earlier) (waits ++ old_noted) seen_is in
-        let fits =
-        all_fit k client sn earlier is_client others (Has_asked s files old_noted (moved_in run))
-        (Conversed_so run takes_own is waits quiet (sym h.1)) in
-        let takes =
-        can_take (At (Has_asked s files old_noted (moved_in run))) earlier fits (suc k) client.ip at_ip e comes
-        ahead x others_are h.0 in
-        let all : CanTake (At (Has_asked s files old_noted (moved_in run))) client.ip ((ahead ++ x ∷ []) ++ waits) =
+        Joint (At (Has_asked s' files' noted (client_moves does (moved_in h.run))))
+    client_steps {s = s} {s' = s'} {files = files} {files' = files'} {old_noted = old_noted} h waits quiet does so
+        (split ahead x [] others_are own added noted_is seen_is) =
+        let now = heads e x (events_of (suc k) earlier) (waits ++ old_noted) seen_is in
+        let before = Has_asked s files old_noted (moved_in h.run) in
+        let fits = all_fit k client sn earlier is_client others before (Conversed_so h waits quiet (sym now.1)) in
+        let takes = can_take (At before) earlier fits (suc k) client.ip at_ip e comes ahead x others_are now.0 in
+        let all : CanTake (At before) client.ip ((ahead ++ x ∷ []) ++ waits) =
         λ port from bytes i. takes port from bytes (before_waits (ahead ++ x ∷ []) waits (Received port from bytes)
         quiet (λ q. q) i) in
-        subst (λ (es : List SocketEvent). Joint (At (Has_asked s' files' es (client_moves does (moved_in run)))))
+        subst (λ (es : List SocketEvent). Joint (At (Has_asked s' files' es (client_moves does (moved_in h.run)))))
         (sym (noted_is ∙ sym (append_assoc (ahead ++ x ∷ []) waits old_noted)))
-        (client_goes old_noted (moved_in run) (ih (At (Has_asked s files old_noted (moved_in run))) fits) does so
+        (client_goes old_noted (moved_in h.run) (ih (At before) fits) does so
         ((ahead ++ x ∷ []) ++ waits) (added ∙ sym (append_assoc (ahead ++ x ∷ []) waits s.events)) all)
-    client_steps {s' = s'} {files' = files'} {noted = noted} old_noted run takes_own is waits quiet does so
+    client_steps {s' = s'} {files' = files'} {old_noted = old_noted} {noted = noted} h waits quiet does so
         (split ahead x (y ∷ rest) others_are own added noted_is seen_is) =
-        let h = heads e x (events_of (suc k) earlier) ((y ∷ rest) ++ (waits ++ old_noted)) seen_is in
-        ih (At (Has_asked s' files' noted (client_moves does (moved_in run))))
-        (all_fit k client sn earlier is_client others (Has_asked s' files' noted (client_moves does (moved_in run)))
-        (Conversing old_noted run takes_own is waits quiet does so
-        (step_back ahead x y rest (events_of (suc k) earlier) others_are own added noted_is h.1)))
+        let now = heads e x (events_of (suc k) earlier) ((y ∷ rest) ++ (waits ++ old_noted)) seen_is in
+        let after = Has_asked s' files' noted (client_moves does (moved_in h.run)) in
+        ih (At after) (all_fit k client sn earlier is_client others after (Conversing h waits quiet does so
+        (step_back ahead x y rest (events_of (suc k) earlier) others_are own added noted_is now.1)))
 
     -- the event is the last that the client has noted, by its last step or before
-    client_last : {s s' : State} {files files' : Files G K} (run : Conversed client s files) →
-        TakesOwn programs.ip programs.others run →
-        (does : ClientDoes inputs outputs client.port s files s' files') → DoesOwn programs.ip programs.others does →
-        (noted : List SocketEvent) → s'.events ≡ noted ++ client.before →
-        noted ≡ e ∷ events_of (suc k) earlier → ((older : List SocketEvent) → s.events ≡ older ++ client.before →
-        older ≡ e ∷ events_of (suc k) earlier → Joint (At (Has_asked s files older (moved_in run)))) →
-        Joint (At (Has_asked s' files' noted (client_moves does (moved_in run))))
-    client_last {s = s} {s' = s'} run takes_own does so noted is seen_is rest_of = elim (client_adds does) [
-      | Rests same ↦
-          client_goes noted (moved_in run) (rest_of noted (sym same ∙ is) seen_is) does so [] same
-          (λ port from bytes i. absurd (let l = i.1 in omega arith))
-      | Acts x rest waits own quiet added ↦
-          let before = client_noted client run in
-          let old_noted = before.0 ++ before.1 ∷ [] in
-          let old_is : waits ++ s.events ≡ (waits ++ old_noted) ++ client.before =
-          ap (λ (es : List SocketEvent). waits ++ es) before.2 ∙ sym (append_assoc waits old_noted client.before) in
-          let noted_is =
-          past (x ∷ rest) (waits ++ old_noted) client.before (waits ++ s.events) s'.events noted added old_is is in
-          client_steps old_noted run takes_own before.2 waits quiet does so
-          (split [] x rest tt own added noted_is (sym seen_is ∙ noted_is))
-    ]
-
     client_back : {s : State} {files : Files G K} (run : Conversed client s files) →
         TakesOwn programs.ip programs.others run → (noted : List SocketEvent) → s.events ≡ noted ++ client.before →
         noted ≡ e ∷ events_of (suc k) earlier → Joint (At (Has_asked s files noted (moved_in run)))
@@ -334,22 +311,31 @@ module _ {S F D G K : Type 0} {stores : StoreMeaning S D} {sources : SourceMeani
         (set_again sn.clients k Unasked (just_asked client))
         (Client_asks joint k client is_client (stage_is Unasked)) in
         subst (λ (es : List SocketEvent). Joint
-        (At (Has_asked (begun client.backoff client.port client.reading client.first client.before) client.file es nothing_moved))) (sym noted_is)
-        asks
-    client_back (Goes_on run does) takes_own noted is seen_is =
-        client_last run takes_own.0 does takes_own.1 noted is seen_is
-        (λ older i seen. client_back run takes_own.0 older i seen)
+        (At (Has_asked (begun client.backoff client.port client.reading client.first client.before) client.file es
+        nothing_moved))) (sym noted_is) asks
+    client_back (Goes_on {s = s} {s' = s'} run does) takes_own noted is seen_is = elim (client_adds does) [
+      | Rests same ↦
+          client_goes noted (moved_in run) (client_back run takes_own.0 noted (sym same ∙ is) seen_is) does takes_own.1 []
+          same (λ port from bytes i. absurd (let l = i.1 in omega arith))
+      | Acts x rest waits own quiet added ↦
+          let before = client_noted client run in
+          let old_noted = before.0 ++ before.1 ∷ [] in
+          let old_is : waits ++ s.events ≡ (waits ++ old_noted) ++ client.before =
+          ap (λ (es : List SocketEvent). waits ++ es) before.2 ∙ sym (append_assoc waits old_noted client.before) in
+          let noted_is =
+          past (x ∷ rest) (waits ++ old_noted) client.before (waits ++ s.events) s'.events noted added old_is is in
+          client_steps (record { run = run; own = takes_own.0; is = before.2 }) waits quiet does takes_own.1
+          (split [] x rest tt own added noted_is (sym seen_is ∙ noted_is))
+    ]
 
     client_any : {stage : ClientStage G K} → ClientFits client (e ∷ events_of (suc k) earlier) stage → Joint (At stage)
     client_any (Not_yet none) = no_more e (events_of (suc k) earlier) (sym none)
-    client_any (Conversed_so {noted = noted} run own is [] quiet seen_is) = client_back run own noted is seen_is
-    client_any (Conversed_so {s = s} {files = files} {noted = noted} run own is (w ∷ waits) quiet seen_is) =
-        let h = heads w e (waits ++ noted) (events_of (suc k) earlier) seen_is in
-        ih (At (Has_asked s files noted (moved_in run)))
-        (all_fit k client sn earlier is_client others (Has_asked s files noted (moved_in run))
-        (Conversed_so run own is waits quiet.1 h.1))
-    client_any (Conversing old_noted run own is waits quiet does so s) =
-        client_steps old_noted run own is waits quiet does so s
+    client_any (Conversed_so h [] quiet seen_is) = client_back h.run h.own _ h.is seen_is
+    client_any (Conversed_so {s = s} {files = files} {noted = noted} h (w ∷ waits) quiet seen_is) =
+        let now = heads w e (waits ++ noted) (events_of (suc k) earlier) seen_is in
+        let stage = Has_asked s files noted (moved_in h.run) in
+        ih (At stage) (all_fit k client sn earlier is_client others stage (Conversed_so h waits quiet.1 now.1))
+    client_any (Conversing h waits quiet does so s) = client_steps h waits quiet does so s
 
   -- ---- all programs
 
@@ -406,13 +392,13 @@ module _ {S F D G K : Type 0} {stores : StoreMeaning S D} {sources : SourceMeani
   -- at the beginning of the order no client has sent its request
   client_first : (client : Client) {stage : ClientStage G K} → ClientFits client [] stage → stage ≡ Unasked
   client_first client (Not_yet none) = refl
-  client_first client (Conversed_so run own is (w ∷ waits) quiet none) = no_more w (waits ++ _) (sym none)
-  client_first client (Conversed_so {noted = noted} run own is [] quiet none) =
-      let before = client_noted client run in
+  client_first client (Conversed_so h (w ∷ waits) quiet none) = no_more w (waits ++ _) (sym none)
+  client_first client (Conversed_so {noted = noted} h [] quiet none) =
+      let before = client_noted client h.run in
       ends_with before.0 before.1 (sym none ∙ append_cancel_right noted (before.0 ++ before.1 ∷ []) client.before
-      (sym is ∙ before.2))
-  client_first client (Conversing old_noted run takes_own is waits quiet does so
-      (split ahead x rest others own added noted_is none)) = no_more x (rest ++ _) none
+      (sym h.is ∙ before.2))
+  client_first client (Conversing h waits quiet does so (split ahead x rest others own added noted_is none)) =
+      no_more x (rest ++ _) none
 
   all_first : (clients : List (ClientStage G K)) {state : LoopState S F D} {run : ServerRun state}
       {noted : List SocketEvent} → map (λ (client : Client). Unasked) programs.clients ≡ clients →
@@ -442,7 +428,7 @@ module _ {S F D G K : Type 0} {stores : StoreMeaning S D} {sources : SourceMeani
           stage_of client,
           slice_get-map stage_of programs.clients k
               ∙ ap (λ (o : Option Client). option_map stage_of o) is,
-          Conversed_so client.runs (own k client is) client.is_noted [] tt
+          Conversed_so (record { run = client.runs; own = own k client is; is = client.is_noted }) [] tt
               (sym (is_order.clients k client is)),
         );
       })

@@ -18,8 +18,8 @@ use Rattle.tftp_rules.proofs.EndOpenings.{nothing_held, no_text}
 use Rattle.tftp_rules.proofs.UnblamedEnds.{opens_unblamed}
 use Rattle.tftp_promises.proofs.MovedSends.{gave_first}
 use Rattle.tftp_promises.proofs.Invariant.{client_text, IsThere, HasFile, IsKept, IsFreshBy}
-use Rattle.tftp_promises.proofs.KeptClients.{ClientTurns, client_keeps, transfer_apart}
-use Rattle.tftp_promises.proofs.KeptViews.{viewed_before, among_push}
+use Rattle.tftp_promises.proofs.KeptClients.{client_keeps, transfer_apart}
+use Rattle.tftp_promises.proofs.KeptViews.{opened}
 use Rattle.tftp_promises.proofs.Places.{clients_there}
 use Rattle.tftp_promises.proofs.Texts.{pad_length}
 use Rattle.tftp_promises.proofs.Orders.{one_in}
@@ -110,12 +110,13 @@ module _ {S F D G K : Type 0} {stores : StoreMeaning S D} {sources : SourceMeani
   pub requests : ClientOpens inputs outputs to client.first client.file → Requests client.first client.file
   requests (To_read h) =
       to_read client.first client.file h (record {
-        receiver = refl;
-        took = record {
-          stored = refl;
-          committed = λ c. absurd (true≢false (sym c));
-          refuses = refl;
-        };
+        role = ap (λ (z : EndState). z.role) (sym h.is);
+        text = λ s. absurd (true≢false (sym s));
+        file = (
+          refl,
+          record { stored = refl; committed = λ c. absurd (true≢false (sym c)); refuses = refl },
+          tt,
+        );
       })
   requests (To_write h) =
       let text = client_text programs pad client in
@@ -124,17 +125,18 @@ module _ {S F D G K : Type 0} {stores : StoreMeaning S D} {sources : SourceMeani
       ∙ sym (pad_length pad client.first.role.length (moved_in client.runs).bytes) in
       to_write client.first client.file h [] text measured
       (record {
-        sender = refl;
         role = ap (λ (z : EndState). z.role) (sym h.is);
-        text = refl;
-        gave = record { prefix = (text, refl); left = λ _. refl };
-        given = record { first = h.source; is_first = h.is_file; since = gave_first Gave_nothing };
+        text = λ s. refl;
+        file = (
+          refl,
+          record { prefix = (text, refl); left = λ _. refl },
+          record { first = h.source; is_first = h.is_file; since = gave_first Gave_nothing },
+        );
       })
 
 -- what a request says
 pub says_request : (write : Bool) (request : WireRequest) → said (requested write request) ≡ Request write request
-says_request true request = refl
-says_request false request = refl
+says_request write request = search rules
 
 module _ {S F D G K : Type 0} {stores : StoreMeaning S D} {sources : SourceMeaning F} {inputs : SourceMeaning G}
     {outputs : SinkMeaning K} {programs : Programs stores sources inputs outputs} {pad : ℕ} {old : Snapshot programs}
@@ -147,7 +149,7 @@ module _ {S F D G K : Type 0} {stores : StoreMeaning S D} {sources : SourceMeani
   pub nobody_there : NoneAt kept.views a
   nobody_there j view at same = elim (kept.only view (j, at)) [
     | inl h ↦
-        let k_is = fresh.clients h.k k h.client client h.found found (sym h.address ∙ same) in
+        let k_is = fresh.ends.clients h.k k h.client client h.found found (sym h.address ∙ same) in
         let f =
         same_Some (Has_asked h.s h.files h.noted h.moved) Unasked
         (sym h.is_stage ∙ (ap (slice_get old.clients) k_is ∙ unasked)) in
@@ -195,36 +197,28 @@ module _ {S F D G K : Type 0} {stores : StoreMeaning S D} {sources : SourceMeani
         (Sent port to bytes) → IsThere (kept.messages ++ m ∷ []) (endpoint client.ip port) to bytes
     one_event port to bytes i = search (rules, one_in, its_message, endpoint)
 
-    turns : ClientTurns kept k client (begun client.backoff client.port client.reading client.first client.before) client.file
+    pub asked_keeps : IsKept pad (client_did old k (just_asked client))
+    asked_keeps =
+        client_keeps kept fresh k client found Unasked unasked
+        (begun client.backoff client.port client.reading client.first client.before) client.file
         (Sent client.port client.first.position.last_sent_to client.first.position.last_sent ∷ []) nothing_moved
-    turns = record {
-      views = kept.views ++ open_view x ∷ [];
-      said_now = m ∷ [];
-      shown = shown_now;
-      others = λ z apart v. viewed_before (m ∷ []) (open_view x) v;
-      own = record {
-        end = x;
-        address = refl;
-        state = refl;
-        side = h.side;
-        viewed =
-            record {
-              kept = h.kept;
-              index = length kept.views;
-              viewed = slice_get-push_new kept.views (open_view x);
-              last_sent = its_message;
-              unblamed =
-                  opens_unblamed (joined programs) (kept.messages ++ m ∷ []) client.first h.still (λ c. h.alone);
-            };
-        asks = (requested h.write h.request, spelled, Contains-push kept.messages m);
-        has = h.has;
-      };
-      notes = λ port to bytes i. inr (one_event port to bytes i);
-      only = λ view among. elim (among_push kept.views (open_view x) view among) [
-        | inl o ↦ inl o
-        | inr e ↦ inr (ap (λ (v : EndView). v.address) e)
-      ];
-    }
+        (opened a x refl (m ∷ []) shown_now) (record {
+          end = x;
+          address = refl;
+          state = refl;
+          side = h.side;
+          viewed =
+              record {
+                kept = h.kept;
+                index = length kept.views;
+                viewed = slice_get-push_new kept.views (open_view x);
+                last_sent = its_message;
+                unblamed =
+                    opens_unblamed (joined programs) (kept.messages ++ m ∷ []) client.first h.still (λ c. h.alone);
+              };
+          asks = (requested h.write h.request, spelled, Contains-push kept.messages m);
+          has = h.has;
+        }) (λ port to bytes i. inr (one_event port to bytes i))
 
   pub asks_keeps : IsKept pad (client_did old k (just_asked client))
-  asks_keeps = search (rules, requests, client_keeps, begun, nothing_moved, turns)
+  asks_keeps = asked_keeps (requests programs pad k client found client.opens)

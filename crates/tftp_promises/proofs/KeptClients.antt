@@ -1,19 +1,18 @@
 -- A step of a client keeps the invariant, if it does of the client's own end.
-use Rattle.tftp_promises.proofs.Common.{List, ℕ, ◌≡◌, rules, sym, Endpoint, refl, [], ◌∙◌, ap, SourceMeaning, Some}
-use Rattle.tftp_promises.proofs.Common.{subst, inl, StoreMeaning, inr, SinkMeaning, ◌++◌, Programs, ◌⊎◌, Contains}
-use Rattle.tftp_promises.proofs.Common.{Files, SocketEvent, Option, ◌≢◌, slice_get, TransferState, Sent, joined}
-use Rattle.tftp_promises.proofs.Common.{ClientOf, OpenEnd, client_at, endpoint, Snapshot, same_Some, Turn, State}
-use Rattle.tftp_promises.proofs.Common.{IsStranger, Moved, open_view, Message, EndView, Contains-push, after_turn}
-use Rattle.tftp_promises.proofs.Common.{cases_eq, Reply, is_client, IsShown, message, WasSentBefore, Has_asked, said}
-use Rattle.tftp_promises.proofs.Common.{Contains-append_cases, IsAmong, set, end_after, ClientStage, Holding}
-use Rattle.tftp_promises.proofs.Common.{IsUnblamed, slice_get-set_same, Unasked, client_did, Goes, append-nil}
-use Rattle.tftp_promises.proofs.Common.{slice_get-set_other, unblamed_still, noted_by, slice_get-set_cases}
+use Rattle.tftp_promises.proofs.Common.{List, ℕ, ◌≡◌, sym, Endpoint, refl, [], ◌∙◌, ap, SourceMeaning, Some, subst, inl}
+use Rattle.tftp_promises.proofs.Common.{StoreMeaning, inr, SinkMeaning, ◌++◌, Programs, ◌⊎◌, Contains, Files}
+use Rattle.tftp_promises.proofs.Common.{SocketEvent, Option, ◌≢◌, slice_get, TransferState, Sent, joined, ClientOf}
+use Rattle.tftp_promises.proofs.Common.{OpenEnd, client_at, endpoint, Snapshot, same_Some, Turn, State, IsStranger}
+use Rattle.tftp_promises.proofs.Common.{Moved, open_view, Message, EndView, Contains-push, after_turn, cases_eq, Reply}
+use Rattle.tftp_promises.proofs.Common.{message, WasSentBefore, Has_asked, said, Contains-append_cases, IsAmong, set}
+use Rattle.tftp_promises.proofs.Common.{end_after, ClientStage, Holding, IsUnblamed, slice_get-set_same, client_did}
+use Rattle.tftp_promises.proofs.Common.{Goes, slice_get-set_other, unblamed_still, noted_by, slice_get-set_cases}
+use Rattle.tftp_promises.proofs.Common.{EndState}
 use Rattle.tftp_rules.specs.EndShown.{Replies, Newest}
-use Rattle.tftp_promises.proofs.Invariant.{IsThere, IsViewed, HasTransferBy, ClientKept, StageKept, TransferKept}
-use Rattle.tftp_promises.proofs.Invariant.{ServerKept, IsOfClient, IsOfTransfer, IsKept, IsFreshBy, SendsText}
-use Rattle.tftp_promises.proofs.Invariant.{same_transfer, HasFile}
-use Rattle.tftp_promises.proofs.KeptViews.{arrived_still, sent_still, there_still, viewed_beside, viewed_still}
-use Rattle.tftp_promises.proofs.KeptViews.{among_set}
+use Rattle.tftp_promises.proofs.Invariant.{IsThere, HasTransferBy, ClientKept, StageKept, TransferKept, IsOfClient}
+use Rattle.tftp_promises.proofs.Invariant.{IsOfTransfer, IsKept, IsFreshBy, SendsText, same_transfer, HasFile}
+use Rattle.tftp_promises.proofs.KeptViews.{TurnsHere, arrived_still, quiet, sent_still, stage_still, there_still}
+use Rattle.tftp_promises.proofs.KeptViews.{turned, viewed_still}
 use Rattle.tftp_promises.proofs.NewPlaces.{client_apart}
 use Rattle.tftp_promises.proofs.Orders.{SendsOnly, IsSilent}
 
@@ -26,25 +25,14 @@ module _ {S F D G K : Type 0} {stores : StoreMeaning S D} {sources : SourceMeani
   transfer_apart {old = old} kept fresh k client found a h same =
       client_apart programs old fresh a (kept.server.opened h.port h.transfer a h.is_transfer) k client found same
 
-  -- what a step of the client at this index does, after which it is there
-  pub record ClientTurns {pad : ℕ} {old : Snapshot programs} (kept : IsKept pad old) (k : ℕ)
-      (client : ClientOf programs) (s : State) (files : Files G K) (noted : List SocketEvent) (moved : Moved) : Type 0 where
-    pub views : List EndView
-    pub said_now : List Message
-    pub shown : IsShown (joined programs) views (kept.messages ++ said_now)
-    pub others : (z : OpenEnd) → client_at client ≢ z.address →
-        IsViewed (joined programs) (SendsText programs pad) kept.views kept.messages z →
-        IsViewed (joined programs) (SendsText programs pad) views (kept.messages ++ said_now) z
-    pub own : ClientKept programs pad views (kept.messages ++ said_now) client s files moved
-    pub notes : (port : ℕ) (to : Endpoint) (bytes : List ℕ) → Contains noted (Sent port to bytes) →
-        WasSentBefore old (endpoint client.ip port) to bytes ⊎ IsThere (kept.messages ++ said_now)
-        (endpoint client.ip port) to bytes
-    pub only : (view : EndView) → IsAmong views view → IsAmong kept.views view ⊎ (view.address ≡ client_at client)
-
   module _ {pad : ℕ} {old : Snapshot programs} (kept : IsKept pad old)
       (fresh : IsFreshBy old) (k : ℕ) (client : ClientOf programs) (found : slice_get programs.clients k ≡ Some client)
       (was : ClientStage G K) (is_stage : slice_get old.clients k ≡ Some was) (s : State) (files : Files G K)
-      (noted : List SocketEvent) (moved : Moved) (turns : ClientTurns kept k client s files noted moved) where
+      (noted : List SocketEvent) (moved : Moved) (turns : TurnsHere kept (λ (a : Endpoint). client_at client ≡ a))
+      (own : ClientKept programs pad turns.next (kept.messages ++ turns.said_now) client s files moved)
+      (notes : (port : ℕ) (to : Endpoint) (bytes : List ℕ) → Contains noted (Sent port to bytes) →
+      WasSentBefore old (endpoint client.ip port) to bytes
+      ⊎ IsThere (kept.messages ++ turns.said_now) (endpoint client.ip port) to bytes) where
     -- two clients at one index are one
     one_client : (j k : ℕ) (c client : ClientOf programs) → slice_get programs.clients j ≡ Some c →
         slice_get programs.clients k ≡ Some client → j ≡ k → c ≡ client
@@ -73,7 +61,7 @@ module _ {S F D G K : Type 0} {stores : StoreMeaning S D} {sources : SourceMeani
     by_client c stage port from to bytes same is at sent =
         let here : from ≡ endpoint client.ip port = at ∙ ap (λ (z : ClientOf programs). endpoint z.ip port) same in
         subst (λ (a : Endpoint). Arrives a to bytes) (sym here)
-        (elim (turns.notes port to bytes (subst (λ (z : ClientStage G K). Contains (noted_by z) (Sent port to bytes)) is
+        (elim (notes port to bytes (subst (λ (z : ClientStage G K). Contains (noted_by z) (Sent port to bytes)) is
         sent)) [
           | inl h ↦ before (endpoint client.ip port) to bytes h
           | inr h ↦ inl h
@@ -89,75 +77,72 @@ module _ {S F D G K : Type 0} {stores : StoreMeaning S D} {sources : SourceMeani
           before from to bytes (inr (search))
     ]
 
-    -- another client
-    other : (j : ℕ) (c : ClientOf programs) (stage : ClientStage G K) → slice_get programs.clients j ≡ Some c → j ≢ k →
-        StageKept programs pad kept.views kept.messages c stage → StageKept programs pad turns.views all_messages c stage
-    other j c Unasked at n h = tt
-    other j c (Has_asked s' files' noted' moved') at n h =
-        search (
-          turns.others h.end (λ same. n (fresh.clients j k c client at found (sym (same ∙ h.address)))) h.viewed,
-          there_still kept.messages turns.said_now h.asks,
-        )
-
     all_clients : (j : ℕ) (c : ClientOf programs) (stage : ClientStage G K) → slice_get programs.clients j ≡ Some c →
-        slice_get (set old.clients k next) j ≡ Some stage → StageKept programs pad turns.views all_messages c stage
+        slice_get (set old.clients k next) j ≡ Some stage → StageKept programs pad turns.next all_messages c stage
     all_clients j c stage at e = elim (slice_get-set_cases old.clients k j next stage e) [
-      | inl h ↦ subst (λ z. StageKept programs pad turns.views all_messages c z) (sym h.1) (subst (λ z. ClientKept programs
-          pad turns.views all_messages z s files moved) (sym (one_client j k c client at found h.0)) turns.own)
-      | inr h ↦ other j c stage at h.0 (kept.clients j c stage at h.1)
+      | inl h ↦ subst (λ z. StageKept programs pad turns.next all_messages c z) (sym h.1) (subst (λ z. ClientKept programs
+          pad turns.next all_messages z s files moved) (sym (one_client j k c client at found h.0)) own)
+      | inr h ↦
+          stage_still turns.said_now c stage (λ z here v.
+          turns.others z (λ same. h.0 (fresh.ends.clients j k c client at found (sym (same ∙ here)))) v)
+          (kept.clients j c stage at h.1)
     ]
 
     all_transfers : (port : ℕ) (transfer : TransferState F D) (a : Endpoint) →
-        HasTransferBy new port transfer a → TransferKept pad turns.views all_messages new port transfer a
+        HasTransferBy new port transfer a → TransferKept pad turns.next all_messages new port transfer a
     all_transfers port transfer a is =
         let h = kept.transfers port transfer a is in
         same_transfer h
         (turns.others h.end (λ same. transfer_apart kept fresh k client found a
         (record { port = port; transfer = transfer; is_transfer = is }) (same ∙ h.address)) h.viewed) h.has
 
-    server_kept : ServerKept all_messages new
-    server_kept = record {
-      requests = kept.server.requests;
-      config = kept.server.config;
-      pending =
-          λ from bytes e. arrived_still kept.messages turns.said_now (kept.server.pending from bytes e);
-      once = kept.server.once;
-      seats = kept.server.seats;
-      gone = kept.server.gone;
-      gone_once = kept.server.gone_once;
-      opened = kept.server.opened;
+    -- it is there now, and a client that had asked is there still
+    here_now : (a : Endpoint) → client_at client ≡ a → IsOfClient programs new.clients a
+    here_now a here = record {
+      k = k;
+      client = client;
+      found = found;
+      s = s;
+      files = files;
+      noted = noted;
+      moved = moved;
+      is_stage = slice_get-set_same old.clients k next was is_stage;
+      address = sym here;
     }
 
-    -- a client that had asked is there still
     asked_still : (a : Endpoint) → IsOfClient programs old.clients a → IsOfClient programs new.clients a
     asked_still a h = elim (cases_eq h.k k) [
-      | inl same ↦ record {
-        k = k;
-        client = client;
-        found = found;
-        s = s;
-        files = files;
-        noted = noted;
-        moved = moved;
-        is_stage = slice_get-set_same old.clients k next was is_stage;
-        address = h.address ∙ ap (λ (z : ClientOf programs). client_at z) (one_client h.k k h.client client h.found
-            found same);
-      }
+      | inl same ↦ here_now a (sym (h.address ∙ ap (λ (z : ClientOf programs). client_at z) (one_client h.k k h.client
+          client h.found found same)))
       | inr n ↦ search (slice_get-set_other old.clients k h.k next n ∙ h.is_stage)
     ]
 
-    all_views : (view : EndView) → IsAmong turns.views view →
+    all_views : (view : EndView) → IsAmong turns.next view →
         IsOfClient programs new.clients view.address ⊎ IsOfTransfer new view.address
     all_views view among = elim (turns.only view among) [
       | inl o ↦ elim (kept.only view o) [
         | inl h ↦ inl (asked_still view.address h)
         | inr h ↦ inr (record { port = h.port; transfer = h.transfer; is_transfer = h.is_transfer })
       ]
-      | inr here ↦ inl (search (slice_get-set_same old.clients k next was is_stage))
+      | inr here ↦ inl (here_now view.address here)
     ]
 
     pub client_keeps : IsKept pad new
-    client_keeps = search (rules, all_sent, server_kept, all_clients, all_transfers, all_views)
+    client_keeps = record {
+      views = turns.next;
+      messages = all_messages;
+      shown = turns.shown;
+      sent = all_sent;
+      server = record {
+        pending = λ from bytes e. arrived_still kept.messages turns.said_now (kept.server.pending from bytes e);
+        apart = kept.server.apart;
+        once = kept.server.once;
+        opened = kept.server.opened;
+      };
+      clients = all_clients;
+      transfers = all_transfers;
+      only = all_views;
+    }
 
 -- A turn of a client's end keeps the invariant, and so does a step that leaves the end as it was.
 
@@ -230,20 +215,6 @@ module _ {S F D G K : Type 0} {stores : StoreMeaning S D} {sources : SourceMeani
     address : y.address ≡ here
     address = own.address
 
-    its_view : IsViewed (joined programs) (SendsText programs pad) (set kept.views own.viewed.index (open_view y))
-        messages y
-    its_view = record {
-      kept = goes.kept;
-      index = own.viewed.index;
-      viewed = slice_get-set_same kept.views own.viewed.index (open_view y) (open_view own.end) own.viewed.viewed;
-      last_sent =
-          newest_there kept.messages goes.said_now own.end y turn goes.replies goes.last_sent own.viewed.last_sent;
-      unblamed = unblamed_still (joined programs) kept.messages goes.said_now y.state unblamed;
-    }
-
-    its_end : ClientKept programs pad (set kept.views own.viewed.index (open_view y)) messages client s' files' moved'
-    its_end = search (rules, address, its_view, there_still)
-
     its_notes : (port : ℕ) (to : Endpoint) (bytes : List ℕ) → Contains (added ++ noted) (Sent port to bytes) →
         WasSentBefore old (endpoint client.ip port) to bytes ⊎ IsThere messages (endpoint client.ip port) to bytes
     its_notes port to bytes c = elim (Contains-append_cases added noted (Sent port to bytes) c) [
@@ -255,52 +226,42 @@ module _ {S F D G K : Type 0} {stores : StoreMeaning S D} {sources : SourceMeani
       | inr before ↦ inl (noted_before port to bytes before)
     ]
 
-    turned : ClientTurns kept k client s' files' (added ++ noted) moved'
-    turned = record {
-      views = set kept.views own.viewed.index (open_view y);
-      said_now = goes.said_now;
-      shown = (kept.shown.0 ++ goes.shown.0, goes.shown.2);
-      others =
-          λ z apart v. viewed_beside goes.said_now own.viewed.index
-          (open_view own.end) (open_view y) z own.viewed.viewed (λ same. apart (sym own.address ∙ same)) v;
-      own = its_end;
-      notes = its_notes;
-      only = λ view among. elim (among_set kept.views own.viewed.index (open_view y) view among) [
-        | inl o ↦ inl o
-        | inr e ↦ inr (ap (λ (v : EndView). v.address) e ∙ address)
-      ];
-    }
-
     pub turn_keeps : IsKept pad (client_did old k (Has_asked s' files' (added ++ noted) moved'))
-    turn_keeps = search (rules, client_keeps, turned)
+    turn_keeps =
+        client_keeps kept fresh k client found (Has_asked s files noted moved) is_stage s' files' (added ++ noted) moved'
+        (turned here own.viewed.index (open_view own.end) y own.viewed.viewed own.address address goes.said_now
+        (kept.shown.0 ++ goes.shown.0, goes.shown.2)) (record {
+          end = y;
+          address = address;
+          state = ap (λ (e : EndState). after_turn e turn) own.state ∙ sym state;
+          side = own.side;
+          viewed = record {
+            kept = goes.kept;
+            index = own.viewed.index;
+            viewed = slice_get-set_same kept.views own.viewed.index (open_view y) (open_view own.end) own.viewed.viewed;
+            last_sent =
+                newest_there kept.messages goes.said_now own.end y turn goes.replies goes.last_sent own.viewed.last_sent;
+            unblamed = unblamed_still (joined programs) kept.messages goes.said_now y.state unblamed;
+          };
+          asks = there_still kept.messages goes.said_now own.asks;
+          has = has;
+        }) its_notes
 
   -- the end as it was
   module _ (s' : State) (state : s'.end ≡ s.end) (files' : Files G K) (moved' : Moved)
       (has : HasFile programs pad client own.end files' moved') (added : List SocketEvent) (silent : IsSilent added) where
-    stays : ClientTurns kept k client s' files' (added ++ noted) moved'
-    stays = record {
-      views = kept.views;
-      said_now = [];
-      shown =
-          subst (λ (ms : List Message). IsShown (joined programs) kept.views ms) (sym (append-nil kept.messages))
-          kept.shown;
-      others = λ z apart v. viewed_still [] v;
-      own = record {
-        end = own.end;
-        address = own.address;
-        state = own.state ∙ sym state;
-        side = own.side;
-        viewed = viewed_still [] own.viewed;
-        asks =
-            there_still kept.messages [] own.asks;
-        has = has;
-      };
-      notes = λ port to bytes c. elim (Contains-append_cases added noted (Sent port to bytes) c) [
-        | inl now ↦ absurd (silent port to bytes now)
-        | inr before ↦ inl (noted_before port to bytes before)
-      ];
-      only = λ view among. inl among;
-    }
-
     pub stays_keeps : IsKept pad (client_did old k (Has_asked s' files' (added ++ noted) moved'))
-    stays_keeps = search (rules, client_keeps, stays)
+    stays_keeps =
+        client_keeps kept fresh k client found (Has_asked s files noted moved) is_stage s' files' (added ++ noted) moved'
+        (quiet kept.shown) (record {
+          end = own.end;
+          address = own.address;
+          state = own.state ∙ sym state;
+          side = own.side;
+          viewed = viewed_still [] own.viewed;
+          asks = there_still kept.messages [] own.asks;
+          has = has;
+        }) (λ port to bytes c. elim (Contains-append_cases added noted (Sent port to bytes) c) [
+          | inl now ↦ absurd (silent port to bytes now)
+          | inr before ↦ inl (noted_before port to bytes before)
+        ])

@@ -1,43 +1,28 @@
 -- Ports of which the server uses none twice are fresh: among them are those of its clients' transfers.
 use Rattle.tftp_promises.proofs.Common.{List, ℕ, ◌≡◌, rules, sym, Endpoint, refl, [], ◌∙◌, ap, SourceMeaning, Some}
 use Rattle.tftp_promises.proofs.Common.{subst, inl, StoreMeaning, inr, ◌∷◌, SinkMeaning, false, true, None, ◌++◌}
-use Rattle.tftp_promises.proofs.Common.{Programs, Bool, ◌⊎◌, Contains, Files, SocketEvent, Option, arith, LoopState}
-use Rattle.tftp_promises.proofs.Common.{length, slice_get, TransferState, LoopStep, joined, ClientOf, if◌then◌else◌}
-use Rattle.tftp_promises.proofs.Common.{client_at, Snapshot, same_Some, at, Run, State, suc, IsStranger, Moved, Then}
-use Rattle.tftp_promises.proofs.Common.{Start, moved_in, Noted, zero, Contains-push, IsPrefixOf, cases_eq, ◌+◌}
-use Rattle.tftp_promises.proofs.Common.{server_did, all_of, our_ports, WasSentBefore, Has_asked, map, moved_at}
-use Rattle.tftp_promises.proofs.Common.{ClientDoes, AreJoined, Contains-append_cases, Request_answered}
-use Rattle.tftp_promises.proofs.Common.{Contains-append_left, set, ClientStage, Contains-append_right, ArePortsFresh}
-use Rattle.tftp_promises.proofs.Common.{is_ours, opened_ports, slice_get-map, CanTake, slice_get-set_same, Unasked}
-use Rattle.tftp_promises.proofs.Common.{client_did, option_to_list, AreDistinct, client_moves, slice_get-set_other}
-use Rattle.tftp_promises.proofs.Common.{just_asked, opened_by, Client_asks, slice_get_read, Server_does, Client_does}
-use Rattle.tftp_promises.proofs.Common.{ours_by, All_begin, TracesAreJoint, Joint}
+use Rattle.tftp_promises.proofs.Common.{Programs, Bool, ◌⊎◌, Contains, SocketEvent, Option, LoopState, slice_get}
+use Rattle.tftp_promises.proofs.Common.{TransferState, LoopStep, joined, ClientOf, if◌then◌else◌, client_at, Snapshot}
+use Rattle.tftp_promises.proofs.Common.{same_Some, at, Run, suc, IsStranger, Then, Start, moved_in, Noted, zero}
+use Rattle.tftp_promises.proofs.Common.{Contains-push, IsPrefixOf, cases_eq, server_did, all_of, our_ports}
+use Rattle.tftp_promises.proofs.Common.{WasSentBefore, Has_asked, map, moved_at, AreJoined, Contains-append_cases}
+use Rattle.tftp_promises.proofs.Common.{Request_answered, Contains-append_left, set, ClientStage, Contains-append_right}
+use Rattle.tftp_promises.proofs.Common.{ArePortsFresh, is_ours, opened_ports, slice_get-map, CanTake}
+use Rattle.tftp_promises.proofs.Common.{slice_get-set_same, Unasked, client_did, option_to_list, AreDistinct}
+use Rattle.tftp_promises.proofs.Common.{client_moves, slice_get-set_other, just_asked, opened_by, Client_asks}
+use Rattle.tftp_promises.proofs.Common.{Server_does, Client_does, ours_by, All_begin, TracesAreJoint, Joint, option_map}
 use Rattle.tftp_rules.proofs.Refines.{shown_start}
 use Rattle.tftp_promises.specs.Openings.{DistinctPortsAreFresh}
 use Rattle.tftp_promises.specs.Snapshots.{nothing_done}
-use Rattle.tftp_promises.proofs.NewPlaces.{ours_among, below_above, not_again}
+use Rattle.tftp_promises.proofs.NewPlaces.{NoneTwice, none_twice, ours_among, below_above, not_again}
 use Rattle.tftp_promises.proofs.Places.{placed_by, places}
-use Rattle.tftp_promises.proofs.Invariant.{IsFreshBy, IsToldAt, IsThere, HasTransferBy, StageKept, IsKept}
+use Rattle.tftp_promises.proofs.Invariant.{moved_by, IsFreshBy, IsToldAt, IsThere, HasTransferBy, StageKept, IsKept}
+use Rattle.tftp_promises.proofs.Invariant.{StandsAt}
 use Rattle.tftp_promises.proofs.MovedSteps.{client_more, opens_none, server_more}
 use Rattle.tftp_promises.proofs.Texts.{begins_itself, begins_on}
 use Rattle.tftp_promises.proofs.Orders.{nothing_in}
 use Rattle.tftp_promises.proofs.KeptAsks.{asks_keeps}
 use Rattle.tftp_promises.proofs.KeptDoes.{does_keeps}
-
--- no port is there twice, element by element
-abbrev NoneTwice : List ℕ → Type 0
-NoneTwice [] = Unit {0}
-NoneTwice (x ∷ xs) = (Contains xs x → ⊥) × NoneTwice xs
-
-none_twice : (xs : List ℕ) → AreDistinct xs → NoneTwice xs
-none_twice [] d = tt
-none_twice (x ∷ xs) d = (
-  λ c.
-      let there : slice_get xs c.0 ≡ Some x = slice_get_read xs (length xs) c.0 x refl c.1 (sym c.2) in
-      let one : zero ≡ suc c.0 = d zero (suc c.0) x refl there in
-      omega (arith, one),
-  none_twice xs (λ j k port e f. let l = d (suc j) (suc k) port e f in omega (arith, l)),
-)
 
 found_in : (xs : List ℕ) (k x : ℕ) → slice_get xs k ≡ Some x → Contains xs x
 found_in [] k x e = absurd (let f : None ≡ Some x = e in cc)
@@ -99,28 +84,15 @@ module _ {S F D G K : Type 0} {stores : StoreMeaning S D} {sources : SourceMeani
 
 -- Ports that are fresh after a step were so before it.
 
--- an element after these
-get_after : (xs ys : List ℕ) (j : ℕ) → slice_get (xs ++ ys) (length xs + j) ≡ slice_get ys j
-get_after [] ys j = let e : 0 + j ≡ j = omega arith in ap (slice_get ys) e
-get_after (x ∷ xs) ys j =
-    let e : suc (length xs) + j ≡ suc (length xs + j) =
-    omega arith in ap (slice_get (x ∷ (xs ++ ys))) e ∙ get_after xs ys j
-
 -- the first and the last of distinct ones are distinct
-get_past : (p : ℕ) (xs ys : List ℕ) (j : ℕ) →
-    slice_get (p ∷ (xs ++ ys)) (suc (length xs + j)) ≡ slice_get (p ∷ ys) (suc j)
-get_past p xs ys j = get_after xs ys j
+last_twice : (xs ys : List ℕ) → NoneTwice (xs ++ ys) → NoneTwice ys
+last_twice [] ys n = n
+last_twice (x ∷ xs) ys n = last_twice xs ys n.1
 
 distinct_after : (p : ℕ) (xs ys : List ℕ) → AreDistinct (p ∷ (xs ++ ys)) → AreDistinct (p ∷ ys)
-distinct_after p xs ys all zero zero port e f = refl
-distinct_after p xs ys all zero (suc k) port e f =
-    let l = all zero (suc (length xs + k)) port e (get_past p xs ys k ∙ f) in absurd (omega (arith, l))
-distinct_after p xs ys all (suc j) zero port e f =
-    let l = all (suc (length xs + j)) zero port (get_past p xs ys j ∙ e) f in absurd (omega (arith, l))
-distinct_after p xs ys all (suc j) (suc k) port e f =
-    let l =
-    all (suc (length xs + j)) (suc (length xs + k)) port (get_past p xs ys j ∙ e) (get_past p xs ys k ∙ f) in omega
-    (arith, l)
+distinct_after p xs ys all =
+    let n = none_twice (p ∷ (xs ++ ys)) all in
+    distinct (p ∷ ys) (λ c. n.0 (Contains-append_right xs ys p c), last_twice xs ys n.1)
 
 -- one of the last is one of all
 contains_after : (p : ℕ) (xs ys : List ℕ) (port : ℕ) → Contains (p ∷ ys) port → Contains (p ∷ (xs ++ ys)) port
@@ -143,88 +115,47 @@ module _ {S F D G K : Type 0} {stores : StoreMeaning S D} {sources : SourceMeani
   pub fresh_before_server : (old : Snapshot programs) (new : LoopState S F D) (does : LoopStep stores sources old.state new)
       (added : List SocketEvent) → IsFreshBy (server_did old does added) → IsFreshBy old
   fresh_before_server old new does added h = record {
-    server = distinct_after _ _ _ h.server;
+    ends = record {
+      server = distinct_after _ _ _ h.ends.server;
+      clients = h.ends.clients;
+      apart = λ k port x found i. h.ends.apart k port x found (contains_after _ (ours_by programs does) _ _ i);
+      others = λ port i. h.ends.others port (contains_after _ (ours_by programs does) _ _ i);
+    };
     below = λ port i. h.below port (Contains-append_right (ours_by programs does) (our_ports programs old.run) port i);
-    clients = h.clients;
-    apart = λ k port x found i. h.apart k port x found (contains_after _ (ours_by programs does) _ _ i);
-    others = λ port i. h.others port (contains_after _ (ours_by programs does) _ _ i);
     told = λ a c. told_before _ _ _ _ h a c;
     gave = h.gave;
   }
 
-  abbrev Client : Type 0
-  Client = ClientOf programs
-
-  -- what a client had moved before a step of it begins what it has moved
-  abbrev pub HadMoved : Snapshot programs → ℕ → ClientStage G K → Type 0
-  HadMoved old k stage =
-      (s : State) (files : Files G K) (noted : List SocketEvent) (moved : Moved) →
-      slice_get old.clients k ≡ Some (Has_asked s files noted moved) →
-      (s' : State) × (files' : Files G K) × (noted' : List SocketEvent) × (moved' : Moved)
-      × (stage ≡ Has_asked s' files' noted' moved') × IsPrefixOf moved.bytes moved'.bytes
-
-  -- before a step of a client
-  pub fresh_before_client : (old : Snapshot programs) (k : ℕ) (stage : ClientStage G K) → HadMoved old k stage →
+  -- before a step of a client, which may move more
+  pub fresh_before_client : (old : Snapshot programs) (k : ℕ) (was : ClientStage G K) → slice_get old.clients k ≡ Some was →
+      (stage : ClientStage G K) → IsPrefixOf (moved_by was).bytes (moved_by stage).bytes →
       IsFreshBy (client_did old k stage) → IsFreshBy old
-  fresh_before_client old k stage had h = record {
-    server = h.server;
+  fresh_before_client old k was is_was stage more h = record {
+    ends = h.ends;
     below = h.below;
-    clients = h.clients;
-    apart = h.apart;
-    others = h.others;
     told = λ a c. let t = h.told a c in record { bytes = t.bytes; opened = t.opened };
-    gave = λ j client s files noted moved found at. elim (cases_eq j k) [
+    gave = λ j client its found at. elim (cases_eq j k) [
       | inl same ↦
-          let now = had s files noted moved (ap (slice_get old.clients) (sym same) ∙ at) in
-          let here : slice_get (set old.clients k stage) j ≡ Some (Has_asked now.0 now.1 now.2 now.3) =
-          search (rules, slice_get-set_same) in
-          begins_on moved.bytes now.3.bytes (moved_in client.runs).bytes now.5 (h.gave j client now.0 now.1 now.2 now.3
-          found here)
-      | inr n ↦ h.gave j client s files noted moved found (slice_get-set_other old.clients k j stage n ∙ at)
+          let here : slice_get (set old.clients k stage) j ≡ Some stage = search (rules, slice_get-set_same) in
+          let is : was ≡ its = same_Some was its (sym is_was ∙ (ap (slice_get old.clients) (sym same) ∙ at)) in
+          begins_on (moved_by its).bytes (moved_by stage).bytes (moved_in client.runs).bytes (rw (← is) more)
+          (h.gave j client stage found here)
+      | inr n ↦ h.gave j client its found (slice_get-set_other old.clients k j stage n ∙ at)
     ];
   }
-
-  -- a client that had not asked had moved nothing
-  pub unasked_had : (old : Snapshot programs) (k : ℕ) (stage : ClientStage G K) →
-      slice_get old.clients k ≡ Some Unasked → HadMoved old k stage
-  unasked_had old k stage unasked s files noted moved at = search rules
-
-  -- and one that had asked goes on
-  pub asked_had : (old : Snapshot programs) (k : ℕ) (client : Client) (s s' : State) (files files' : Files G K)
-      (noted : List SocketEvent) (moved : Moved) → slice_get old.clients k ≡ Some (Has_asked s files noted moved) →
-      (does : ClientDoes inputs outputs client.port s files s' files') (added : List SocketEvent) →
-      HadMoved old k (Has_asked s' files' (added ++ noted) (client_moves does moved))
-  asked_had old k client s s' files files' noted moved is_stage does added t fs es m at =
-      let same =
-      moved_is s t files fs noted es moved m (same_Some (Has_asked s files noted moved) (Has_asked t fs es m)
-      (sym is_stage ∙ at)) in (
-        s',
-        files',
-        added ++ noted,
-        client_moves does moved,
-        refl,
-        subst (λ (z : Moved). IsPrefixOf z.bytes (client_moves does moved).bytes) same
-            (client_more does moved),
-      ) where
-        moved_is : (s t : State) (files fs : Files G K) (noted es : List SocketEvent) (moved m : Moved) →
-            Has_asked s files noted moved ≡ Has_asked t fs es m → moved ≡ m
-        moved_is s t files fs noted es moved m e = cc
-
-  last_moved : (client : Client) (s : State) (files : Files G K) (noted : List SocketEvent) (moved : Moved) →
-      Has_asked client.last client.files client.noted (moved_in client.runs) ≡ Has_asked s files noted moved →
-      moved_in client.runs ≡ moved
-  last_moved client s files noted moved e = cc
 
   -- where the traces arrive
   pub fresh_at_last : ArePortsFresh programs → IsFreshBy (all_of programs)
   fresh_at_last fresh = record {
-    server = fresh.server;
+    ends = fresh;
     below = λ port i. below_above programs port i;
-    clients = fresh.clients;
-    apart = fresh.apart;
-    others = fresh.others;
     told = λ a c. record { bytes = begins_itself (moved_at programs a programs.server.run).bytes; opened = refl };
-    gave = search (rules, slice_get-map, last_moved, same_Some, begins_itself);
+    gave = λ k client stage found at.
+        let last : ClientOf programs → ClientStage G K = λ (c : ClientOf programs).
+        Has_asked c.last c.files c.noted (moved_in c.runs) in
+        let is : last client ≡ stage = same_Some (last client) stage
+        (sym (slice_get-map last programs.clients k ∙ ap (option_map last) found) ∙ at) in
+        rw (← is) (begins_itself (moved_in client.runs).bytes);
   }
 
 -- The invariant holds before any program has done anything.
@@ -253,13 +184,23 @@ module _ {S F D G K : Type 0} {stores : StoreMeaning S D} {sources : SourceMeani
   no_transfer port transfer a (inl e) = nothing_held port transfer e.0
   no_transfer port transfer a (inr closed) = closed
 
+  nothing_stands : (g : Bool) (port : ℕ) (transfer : TransferState F D) (a : Endpoint) →
+      StandsAt (nothing_done programs) g port transfer a → ⊥
+  nothing_stands true port transfer a h = no_transfer port transfer a (inl h)
+  nothing_stands false port transfer a h = h
+
   pub kept_at_first : (pad : ℕ) → IsKept pad (nothing_done programs)
   kept_at_first pad = record {
     views = [];
     messages = [];
     shown = shown_start (joined programs);
     sent = nothing_sent;
-    server = search rules;
+    server = record {
+      pending = λ from bytes e. absurd (let f : None ≡ Some (from, bytes) = sym programs.server.idle ∙ e in cc);
+      apart = λ g h p q t u a x y. absurd (nothing_stands g p t a x);
+      once = λ p q t u a b x y same. absurd (no_transfer p t a x);
+      opened = λ port transfer a h. absurd (no_transfer port transfer a h);
+    };
     clients =
         λ k client stage found e. subst (λ (s : ClientStage G K). StageKept programs pad [] [] client s) (unasked_at
         programs.clients k stage e) tt;
@@ -286,15 +227,13 @@ module _ {S F D G K : Type 0} {stores : StoreMeaning S D} {sources : SourceMeani
         server_keeps old new does added (joint_kept old joint (fresh_before_server programs old new does added fresh))
         fresh events take
     joint_kept snapshot (Client_asks {old} joint k client found unasked) fresh =
-        let before =
-        fresh_before_client programs old k (just_asked client) (unasked_had programs old k (just_asked client) unasked)
-        fresh in
+        let before = fresh_before_client programs old k Unasked unasked (just_asked client) ([], refl) fresh in
         asks_keeps (joint_kept old joint before) before k client found unasked
     joint_kept snapshot (Client_does {old} {s} {s'} {files} {files'} {noted} {moved} joint k client found is_stage does
         own added events take) fresh =
-        let had = asked_had programs old k client s s' files files' noted moved is_stage does added in
         let before =
-        fresh_before_client programs old k (Has_asked s' files' (added ++ noted) (client_moves does moved)) had fresh in
+        fresh_before_client programs old k (Has_asked s files noted moved) is_stage
+        (Has_asked s' files' (added ++ noted) (client_moves does moved)) (client_more does moved) fresh in
         does_keeps (joint_kept old joint before) before {a = client_at client} (search) s' files' added does own fresh
         events take
 

@@ -4,25 +4,25 @@ use Rattle.tftp_promises.proofs.Common.{subst, inl, StoreMeaning, inr, ◌∷◌
 use Rattle.tftp_promises.proofs.Common.{Programs, Bool, ◌⊎◌, Contains, SocketEvent, ◌≢◌, LoopState, length}
 use Rattle.tftp_promises.proofs.Common.{TransferState, LoopStep, Sent, joined, outcome_of, OpenEnd, if◌then◌else◌}
 use Rattle.tftp_promises.proofs.Common.{endpoint, Snapshot, same_Some, at, IsStranger, open_view, ServerState, Spells}
-use Rattle.tftp_promises.proofs.Common.{Message, EndView, Contains-push, requests_at, Reply, ◌+◌, A_transfer}
-use Rattle.tftp_promises.proofs.Common.{server_did, IsShown, message, append_cancel_right, map, place_at, peer_of, said}
-use Rattle.tftp_promises.proofs.Common.{Came, Request_answered, left_by, Nothing, Left, AnswersRequest, error_bytes}
-use Rattle.tftp_promises.proofs.Common.{HasClosed, Contains-append_right, is_ours, opened_ports, option_to_list}
-use Rattle.tftp_promises.proofs.Common.{At_server, place, numbers, spells_own, came_if, with_new, after_request}
-use Rattle.tftp_promises.proofs.Common.{says_error, lookup-insert_other, above, same_self, is_same, error_packet}
-use Rattle.tftp_promises.proofs.Common.{valid_error, slice_get-push_new, opens_at, NoneAt, lookup-insert_same}
+use Rattle.tftp_promises.proofs.Common.{Message, Contains-push, requests_at, Reply, ◌+◌, A_transfer, server_did}
+use Rattle.tftp_promises.proofs.Common.{IsShown, message, append_cancel_right, map, place_at, peer_of, said, Came}
+use Rattle.tftp_promises.proofs.Common.{Request_answered, left_by, Nothing, Left, AnswersRequest, error_bytes}
+use Rattle.tftp_promises.proofs.Common.{HasClosed, is_ours, opened_ports, option_to_list, At_server, place, numbers}
+use Rattle.tftp_promises.proofs.Common.{spells_own, came_if, with_new, after_request, says_error, lookup-insert_other}
+use Rattle.tftp_promises.proofs.Common.{above, same_self, is_same, error_packet, valid_error, slice_get-push_new}
+use Rattle.tftp_promises.proofs.Common.{opens_at, NoneAt, lookup-insert_same, Option, first_moved, moved_at, opened_at}
+use Rattle.tftp_promises.proofs.Common.{opening_moves, or_before}
 use Rattle.tftp_rules.specs.Machine.{Error}
 use Rattle.tftp_rules.specs.EndOpens.{EndOpens}
-use Rattle.tftp_promises.proofs.Places.{placed_by, places, strange_if}
-use Rattle.tftp_promises.proofs.Invariant.{IsKept, IsThere, AreKeyedOnce, HasStored, HasTransferBy, IsFreshBy, IsNamed}
-use Rattle.tftp_promises.proofs.Invariant.{IsOfTransfer, IsStrangers, ServerKept, TransferKept, same_transfer}
-use Rattle.tftp_promises.proofs.Orders.{IsSilent, added_none, answered_sends, none_silent, one_in}
-use Rattle.tftp_promises.proofs.KeptServer.{says_keeps, still_keeps, ServerStays, ServerTurns, server_keeps}
-use Rattle.tftp_promises.proofs.KeptServer.{stored_after}
+use Rattle.tftp_promises.proofs.Places.{placed_by, places, requests_stay, strange_if}
+use Rattle.tftp_promises.proofs.Invariant.{IsKept, IsThere, HasStored, IsFreshBy, IsNamed, IsStrangers, StandsAt}
+use Rattle.tftp_promises.proofs.Invariant.{TransferKept}
+use Rattle.tftp_promises.proofs.Orders.{IsSilent, added_none, answered_sends, none_silent, nothing_in, one_in}
+use Rattle.tftp_promises.proofs.KeptServer.{AreSent, says_keeps, seat_keeps, still_keeps, ServerStays}
 use Rattle.tftp_promises.proofs.Requested.{IsRefused}
 use Rattle.tftp_promises.proofs.MovedSteps.{MovesNone, none_answered}
-use Rattle.tftp_promises.proofs.KeptViews.{among_push, viewed_before}
-use Rattle.tftp_promises.proofs.Identifiers.{at-with_new_cases, once-with_new}
+use Rattle.tftp_promises.proofs.KeptViews.{TurnsHere, opened}
+use Rattle.tftp_promises.proofs.Identifiers.{at-with_new_cases}
 use Rattle.tftp_promises.proofs.NewPlaces.{at_server as place_at_server, client_apart, new_place}
 
 module _ {S F D G K : Type 0} {stores : StoreMeaning S D} {sources : SourceMeaning F} {inputs : SourceMeaning G}
@@ -50,26 +50,21 @@ module _ {S F D G K : Type 0} {stores : StoreMeaning S D} {sources : SourceMeani
   closed_earlier added port transfer a h4 = search rules
 
   -- one datagram was sent
-  abbrev pub SentOf : List Message → Endpoint → Endpoint → List ℕ → Type 0
-  SentOf messages from to bytes = IsThere messages from to bytes ⊎ IsStranger programs to
-
   pub one_sent : (messages : List Message) (own : ℕ) (reply : Reply) (added : List SocketEvent) →
-      Sent own reply.to reply.bytes ∷ [] ≡ added → SentOf messages (endpoint programs.ip own) reply.to reply.bytes →
-      (port : ℕ) (to : Endpoint) (bytes : List ℕ) → Contains added (Sent port to bytes) →
-      SentOf messages (endpoint programs.ip port) to bytes
+      Sent own reply.to reply.bytes ∷ [] ≡ added →
+      IsThere messages (endpoint programs.ip own) reply.to reply.bytes ⊎ IsStranger programs reply.to →
+      AreSent programs messages added
   one_sent messages own reply added is there port to bytes c =
       let s = answered_sends own (Some reply) [] none_silent port to bytes (rw (sym is) at c) in
-      rw (same_Some reply (record { to = to; bytes = bytes }) s.1) at (subst (λ (n : ℕ). SentOf messages (endpoint
-      programs.ip n) reply.to reply.bytes) s.0 there)
+      rw (same_Some reply (record { to = to; bytes = bytes }) s.1) at (subst (λ (n : ℕ).
+      IsThere messages (endpoint programs.ip n) reply.to reply.bytes ⊎ IsStranger programs reply.to) s.0 there)
 
-  -- if no transfer opens, all else is as it was
-  stays_so : option_to_list answers.left.opened.tid ≡ [] → new.requests ≡ old.state.requests →
-      new.server.config ≡ asked_server.config → new.pending ≡ None → ServerStays kept answered_step
-  stays_so opens requests config pending = search rules
+  -- if no transfer opens, all else is as it was, and nothing moves
+  stays_so : option_to_list answers.left.opened.tid ≡ [] → new.pending ≡ None → ServerStays kept answered_step
+  stays_so opens pending = search rules
 
-  -- nothing moves then
-  moves_none : placed_by programs old.run answered_step ≡ [] → (a : Endpoint) → MovesNone programs old.run answered_step a
-  moves_none opens a = search rules
+  moves_none : option_to_list answers.left.opened.tid ≡ [] → (a : Endpoint) → MovesNone programs old.run answered_step a
+  moves_none opens a = none_answered programs old.run answers a (λ c. nothing_in a (rw (opens) at c))
 
   -- a datagram that is ignored
   pub silent_keeps : (added : List SocketEvent) → new.events ≡ added ++ old.state.events → answers.steps.came ≡ Nothing →
@@ -77,11 +72,9 @@ module _ {S F D G K : Type 0} {stores : StoreMeaning S D} {sources : SourceMeani
   silent_keeps added noted is =
       let e = new_is Nothing is in
       let none : [] ≡ added = added_none old.state.events added (sym (ap (λ s. s.events) e) ∙ noted) in
-      let stays =
-      stays_so (ap (λ l. option_to_list l.opened.tid) (left_is Nothing is)) (ap (λ s. s.requests) e) (ap (λ s.
-      s.server.config) e) (ap (λ s. s.pending) e) in
-      still_keeps kept answered_step stays (moves_none stays.opens) (ap (λ s. s.server.held) e) added (subst IsSilent none
-      none_silent)
+      let opens = ap (λ (l : Left S F D). option_to_list l.opened.tid) (left_is Nothing is) in
+      still_keeps kept answered_step (stays_so opens (ap (λ s. s.pending) e)) (moves_none opens)
+      (ap (λ s. s.server.held) e) added (subst IsSilent none none_silent)
 
   -- one that is answered by an ERROR
   pub refusal_keeps : (added : List SocketEvent) → new.events ≡ added ++ old.state.events →
@@ -89,28 +82,21 @@ module _ {S F D G K : Type 0} {stores : StoreMeaning S D} {sources : SourceMeani
       IsKept pad (server_did old answered_step added)
   refusal_keeps added noted r =
       let e = new_is _ r.is in
-      let own = old.state.requests in
-      let from = answers.from in
-      let bytes = error_bytes r.reply in
-      let a = requests_at programs in
-      let m : Message = message a from Error in
-      let one : Sent own from bytes ∷ [] ≡ added =
-      append_cancel_right (Sent own from bytes ∷ []) added old.state.events (sym (ap (λ (s : LoopState S F D). s.events)
-      e) ∙ noted) in
-      let said : IsThere (kept.messages ++ m ∷ []) (endpoint programs.ip programs.port) from bytes =
+      let reply : Reply = record { to = answers.from; bytes = error_bytes r.reply } in
+      let m : Message = message (requests_at programs) answers.from Error in
+      let one : Sent old.state.requests reply.to reply.bytes ∷ [] ≡ added =
+      append_cancel_right (Sent old.state.requests reply.to reply.bytes ∷ []) added old.state.events
+      (sym (ap (λ s. s.events) e) ∙ noted) in
+      let said : IsThere (kept.messages ++ m ∷ []) (endpoint programs.ip programs.port) reply.to reply.bytes =
       (error_packet r.reply, spells_own (error_packet r.reply) (valid_error r.reply), Contains-push kept.messages m) in
-      let there : IsThere (kept.messages ++ m ∷ []) (endpoint programs.ip own) from bytes =
-      subst (λ (n : ℕ). IsThere (kept.messages ++ m ∷ []) (endpoint programs.ip n) from bytes) (sym
-      kept.server.requests) said in
-      let stays =
-      stays_so (ap (λ (l : Left S F D). option_to_list l.opened.tid) (left_is _ r.is)) (ap (λ (s : LoopState S F D).
-      s.requests) e) (ap (λ (s : LoopState S F D). s.server.config) e) (ap (λ (s : LoopState S F D). s.pending) e) in
-      let shown = says_error (joined programs) kept.shown.0 kept.views kept.messages kept.shown.1 a from in
-      says_keeps _ _ stays (moves_none stays.opens) (ap (λ (s : LoopState S F D). s.server.held) e) _ _ (
-        kept.shown.0 ++
-            shown.0,
-        shown.2,
-      ) (one_sent _ _ _ _ one (inl there))
+      let there = subst (λ (n : ℕ). IsThere (kept.messages ++ m ∷ []) (endpoint programs.ip n) reply.to reply.bytes)
+      (sym (requests_stay programs old.run)) said in
+      let opens = ap (λ (l : Left S F D). option_to_list l.opened.tid) (left_is _ r.is) in
+      let shown = says_error (joined programs) kept.shown.0 kept.views kept.messages kept.shown.1
+      (requests_at programs) answers.from in
+      says_keeps kept answered_step (stays_so opens (ap (λ s. s.pending) e)) (moves_none opens)
+      (ap (λ s. s.server.held) e) added (m ∷ []) (kept.shown.0 ++ shown.0, shown.2)
+      (one_sent (kept.messages ++ m ∷ []) old.state.requests reply added one (inl there))
 
 -- A transfer that a request opens keeps the invariant.
 
@@ -138,8 +124,8 @@ module _ {S F D G K : Type 0} {stores : StoreMeaning S D} {sources : SourceMeani
   abbrev a : Endpoint
   a = place programs count answers.from tid
 
-  abbrev opened : List Endpoint
-  opened = places programs old.run
+  abbrev known : List Endpoint
+  known = places programs old.run
 
   -- ---- a transfer opens
   module _ (transfer : TransferState F D) (store : S) (is : answers.steps.came ≡ A_transfer transfer store) where
@@ -153,8 +139,14 @@ module _ {S F D G K : Type 0} {stores : StoreMeaning S D} {sources : SourceMeani
     its_place = search (rules, placed)
 
     -- it is what came at this place, and at this port
-    pub came_here : opens_at programs a old.run does ≡ Some transfer
+    came_here : opens_at programs a old.run does ≡ Some transfer
     came_here = ap (came_if (is_same a a)) is ∙ ap (λ (b : Bool). if b then Some transfer else None) (same_self a)
+
+    pub opened_here : opened_at programs a now.run ≡ Some transfer
+    opened_here = ap (λ (z : Option (TransferState F D)). or_before z (opened_at programs a old.run)) came_here
+
+    pub moved_here : moved_at programs a now.run ≡ first_moved transfer.end
+    moved_here = ap (λ (z : Option (TransferState F D)). opening_moves z (moved_at programs a old.run)) came_here
 
     place_now : place_at programs tid now.run ≡ a
     place_now = search rules
@@ -163,7 +155,7 @@ module _ {S F D G K : Type 0} {stores : StoreMeaning S D} {sources : SourceMeani
     place_still port n = search rules
 
     -- no transfer before was at this place, or is held at this port
-    place_is_new : (b : Endpoint) → Contains opened b → b ≢ a
+    place_is_new : (b : Endpoint) → Contains known b → b ≢ a
     place_is_new b c = new_place programs old answers opens_port added fresh b c
 
     free_port : (port : ℕ) (t : TransferState F D) → at port server.held ≡ Some t → port ≢ tid
@@ -196,8 +188,11 @@ module _ {S F D G K : Type 0} {stores : StoreMeaning S D} {sources : SourceMeani
       abbrev messages : List Message
       messages = kept.messages ++ said_now
 
-      abbrev views : List EndView
-      views = kept.views ++ open_view x ∷ []
+      abbrev turns : TurnsHere kept (λ (b : Endpoint). a ≡ b)
+      turns =
+          opened a x address said_now (subst (λ (e : Endpoint). IsShown (joined programs) (kept.views ++ open_view x ∷ [])
+          (kept.messages ++ message e answers.from (said opens.packet) ∷ [])) address
+          (kept.shown.0 ++ opens.shown.0, opens.shown.2))
 
       -- its first datagram is among the messages
       spelled : Spells opens.packet x.state.position.last_sent
@@ -231,7 +226,7 @@ module _ {S F D G K : Type 0} {stores : StoreMeaning S D} {sources : SourceMeani
       first_by (inl here) = inl (rw (← here) says_first)
       first_by (inr s) = inr (subst (λ (to : Endpoint). IsStranger programs to) opens.last_sent_to s.last_sent_to)
 
-      own : TransferKept pad views messages now tid transfer a
+      own : TransferKept pad turns.next messages now tid transfer a
       own = record {
         end = x;
         address = address;
@@ -253,140 +248,36 @@ module _ {S F D G K : Type 0} {stores : StoreMeaning S D} {sources : SourceMeani
       }
 
       -- nothing moves at another place
-      beside : (b : Endpoint) → Contains opened b → MovesNone programs old.run does b
-      beside b c =
-          none_answered programs old.run answers b (λ d. place_is_new b c (sym (one_in b a (rw (placed) at d))))
+      beside : (b : Endpoint) → a ≢ b → MovesNone programs old.run does b
+      beside b n = none_answered programs old.run answers b (λ d. n (one_in b a (rw (placed) at d)))
 
-      other : (port : ℕ) (t : TransferState F D) (b : Endpoint) → HasTransferBy old port t b →
-          TransferKept pad views messages now port t b
-      other port t b was =
-          let h = kept.transfers port t b was in
-          same_transfer h (viewed_before said_now (open_view x) h.viewed) (stored_after pad old does added h.end
-          (rw (h.address) (beside b (kept.server.opened port t b was))) t.files h.has)
-
-      -- a transfer that is held is the new one, or was held at another port
-      abbrev IsNew : ℕ → TransferState F D → Type 0
-      IsNew port t = (port ≡ tid) × (transfer ≡ t)
-
-      abbrev WasHeld : ℕ → TransferState F D → Type 0
-      WasHeld port t = (port ≢ tid) × (at port server.held ≡ Some t)
-
-      found_now : (port : ℕ) (t : TransferState F D) → at port new.server.held ≡ Some t → IsNew port t ⊎ WasHeld port t
-      found_now port t found = at-with_new_cases tid port transfer t server.held (ap (at port) (sym held_is) ∙ found)
-
-      new_place_at : (port : ℕ) (t : TransferState F D) → IsNew port t → place_at programs port now.run ≡ a
-      new_place_at port t h = ap (λ (p : ℕ). place_at programs p now.run) h.0 ∙ place_now
-
-      known_place : (port : ℕ) (t : TransferState F D) → WasHeld port t →
-          Contains opened (place_at programs port old.run)
-      known_place port t h = kept.server.opened port t (place_at programs port old.run) (inl (h.1, refl))
-
-      new_own : (port : ℕ) (t : TransferState F D) (b : Endpoint) → IsNew port t → b ≡ a →
-          TransferKept pad views messages now port t b
-      new_own port t b h here = search (rules, own)
-
-      all_transfers : (port : ℕ) (t : TransferState F D) (b : Endpoint) → HasTransferBy now port t b →
-          TransferKept pad views messages now port t b
-      all_transfers port t b (inl found) = elim (found_now port t found.0) [
-        | inl this ↦ new_own port t b this (found.1 ∙ new_place_at port t this)
-        | inr was ↦ other port t b (inl (was.1, found.1 ∙ place_still port was.0))
+      from : (g : Bool) (q : ℕ) (u : TransferState F D) (b : Endpoint) → StandsAt now g q u b →
+          ((g ≡ true) × (q ≡ tid) × (u ≡ transfer) × (b ≡ a)) ⊎ ((a ≢ b) × StandsAt old g q u b)
+      from true q u b h = elim (at-with_new_cases tid q transfer u server.held (ap (at q) (sym held_is) ∙ h.0)) [
+        | inl e ↦ inl (refl, e.0, sym e.1, h.1 ∙ (ap (λ (p : ℕ). place_at programs p now.run) e.0 ∙ place_now))
+        | inr e ↦
+            let was : StandsAt old true q u b = (e.1, h.1 ∙ place_still q e.0) in
+            inr (λ same. place_is_new b (kept.server.opened q u b (inl was)) (sym same), was)
       ]
-      all_transfers port t b (inr closed) =
-          other port t b (inr (closed_earlier kept answers added port t b closed))
+      from false q u b h =
+          let was = closed_earlier kept answers added q u b h in
+          inr (λ same. place_is_new b (kept.server.opened q u b (inr was)) (sym same), was)
 
-      opened_still : (b : Endpoint) → Contains opened b → Contains (places programs now.run) b
-      opened_still b c = Contains-append_right (placed_by programs old.run does) opened b c
-
-      all_opened : (port : ℕ) (t : TransferState F D) (b : Endpoint) → HasTransferBy now port t b →
-          Contains (places programs now.run) b
-      all_opened port t b (inl found) = elim (found_now port t found.0) [
-        | inl this ↦
-            subst (λ (e : Endpoint). Contains (places programs now.run) e) (sym (found.1 ∙ new_place_at port t this))
-            its_place
-        | inr was ↦ opened_still b (kept.server.opened port t b (inl (was.1, found.1 ∙ place_still port was.0)))
-      ]
-      all_opened port t b (inr closed) =
-          opened_still b (kept.server.opened port t b (inr (closed_earlier kept answers added port t b closed)))
-
-      -- no two are at one place
-      new_apart : (p q : ℕ) (t u : TransferState F D) → IsNew p t → WasHeld q u →
-          place_at programs p now.run ≡ place_at programs q now.run → ⊥
-      new_apart p q t u h was same =
-          place_is_new _ (known_place q u was) (sym (place_still q was.0) ∙ (sym same ∙ new_place_at p t h))
-
-      all_seats : (p q : ℕ) (t u : TransferState F D) → at p new.server.held ≡ Some t → at q new.server.held ≡ Some u →
-          place_at programs p now.run ≡ place_at programs q now.run → p ≡ q
-      all_seats p q t u e f same = elim (found_now p t e) [
-        | inl this ↦ elim (found_now q u f) [
-          | inl that ↦ this.0 ∙ sym that.0
-          | inr was ↦ absurd (new_apart p q t u this was same)
-        ]
-        | inr had ↦ elim (found_now q u f) [
-          | inl that ↦ absurd (new_apart q p u t that had (sym same))
-          | inr was ↦ kept.server.seats p q t u had.1 was.1 (sym (place_still p had.0) ∙ (same ∙ place_still q was.0))
-        ]
-      ]
-
-      still_gone : (p q : ℕ) (t u : TransferState F D) (b : Endpoint) → HasClosed programs now.run p t b →
-          at q new.server.held ≡ Some u → b ≢ place_at programs q now.run
-      still_gone p q t u b closed e same =
-          let was = closed_earlier kept answers added p t b closed in
-          elim (found_now q u e) [
-            | inl this ↦ place_is_new b (kept.server.opened p t b (inr was)) (same ∙ new_place_at q u this)
-            | inr had ↦ kept.server.gone p q t u b was had.1 (same ∙ place_still q had.0)
-          ]
-
-      server_kept : ServerKept messages now
-      server_kept = record {
-        requests = ap (λ (s : LoopState S F D). s.requests) state_is ∙ kept.server.requests;
-        config = ap (λ (s : LoopState S F D). s.server.config) state_is ∙ kept.server.config;
-        pending =
-            λ from bytes e. absurd (let f : None ≡ Some (from, bytes) = sym (ap (λ (s : LoopState S F D). s.pending)
-            state_is) ∙ e in cc);
-        once =
-            subst (λ (held : List (ℕ × TransferState F D)). AreKeyedOnce held) (sym held_is) (once-with_new tid transfer
-            server.held answers.free kept.server.once);
-        seats = all_seats;
-        gone = still_gone;
-        gone_once = search rules;
-        opened = all_opened;
-      }
-
-      still_there : (port : ℕ) (t : TransferState F D) (b : Endpoint) → HasTransferBy old port t b →
-          HasTransferBy now port t b
-      still_there port t b (inl found) =
-          let n = free_port port t found.0 in
-          inl (
-            ap (at port) held_is ∙ (lookup-insert_other numbers tid port transfer server.held n ∙ found.0),
-            found.1
-                ∙ sym (place_still port n),
+      onto : (g : Bool) (q : ℕ) (u : TransferState F D) (b : Endpoint) → StandsAt old g q u b →
+          (a ≡ b) ⊎ StandsAt now g q u b
+      onto true q u b h =
+          let n = free_port q u h.0 in
+          inr (
+            ap (at q) held_is ∙ (lookup-insert_other numbers tid q transfer server.held n ∙ h.0),
+            h.1 ∙ sym (place_still q n),
           )
-      still_there port t b (inr closed) = inr (inr closed)
-
-      there_now : HasTransferBy now tid transfer a
-      there_now = inl (ap (at tid) held_is ∙ lookup-insert_same numbers tid transfer server.held, sym place_now)
-
-      turns : ServerTurns kept now added
-      turns = record {
-        views = views;
-        said_now = said_now;
-        shown =
-            subst (λ (e : Endpoint). IsShown (joined programs) views (kept.messages ++ message e answers.from (said
-            opens.packet) ∷ [])) address (kept.shown.0 ++ opens.shown.0, opens.shown.2);
-        sends =
-            one_sent kept answers messages tid (record { to = answers.from; bytes = x.state.position.last_sent }) added
-            one (first_by seat);
-        server = server_kept;
-        clients = λ k client found z here v. viewed_before said_now (open_view x) v;
-        transfers = all_transfers;
-        only = λ view among. elim (among_push kept.views (open_view x) view among) [
-          | inl was ↦ inl was
-          | inr this ↦
-              inr (subst (λ (e : Endpoint). IsOfTransfer now e) (sym (ap (λ (v : EndView). v.address) this ∙ address))
-              (record { port = tid; transfer = transfer; is_transfer = there_now }))
-        ];
-        were = λ e h. search (still_there h.port h.transfer e h.is_transfer);
-      }
+      onto false q u b h = inr (inr h)
 
       pub opening_keeps : IsKept pad now
-      opening_keeps = server_keeps kept does added turns
+      opening_keeps =
+          seat_keeps kept does added true tid transfer a
+          (ap (at tid) held_is ∙ lookup-insert_same numbers tid transfer server.held, sym place_now) from onto its_place
+          (λ k client found same. client_apart programs now fresh a its_place k client found same) beside turns
+          (one_sent kept answers messages tid (record { to = answers.from; bytes = x.state.position.last_sent }) added
+          one (first_by seat)) (λ from bytes e. absurd (let f : None ≡ Some (from, bytes) =
+          sym (ap (λ (s : LoopState S F D). s.pending) state_is) ∙ e in cc)) own

@@ -8,10 +8,9 @@ use Rattle.tftp_promises.proofs.Common.{server_did, message, IsBlockSize, moved_
 use Rattle.tftp_promises.proofs.Common.{Request_answered, WireRequest, Known, ◌*◌, Config, AnswersRequest, GaveSince}
 use Rattle.tftp_promises.proofs.Common.{requested, opened_ports, serving_read, RawOption, place, size, block_length}
 use Rattle.tftp_promises.proofs.Common.{DEFAULT_BLOCK, take, serving_write, Decodes, drop, TakesInTurn, first_moved}
-use Rattle.tftp_promises.proofs.Common.{or_before, block, opening_moves}
+use Rattle.tftp_promises.proofs.Common.{block}
 use Rattle.std.proofs.Common.{min}
 use Rattle.std.proofs.lemmas.List.{take_min, drop_min}
-use Rattle.tftp_file.specs.Block.{Fits}
 use Rattle.tftp_rules.specs.EndOpens.{left_at_first, sending, IsNewly, new_receiver, new_sender}
 use Rattle.tftp_rules.proofs.FirstSent.{first_want}
 use Rattle.tftp_store.specs.Drafts.{Took_nothing}
@@ -21,67 +20,39 @@ use Rattle.tftp_promises.proofs.Requested.{IsFirst, Begins_to_send, Begins_to_st
 use Rattle.tftp_promises.proofs.Requested.{OpensToStore, PortAnswers, Says_error, Silent, port_answers, IsAsked}
 use Rattle.tftp_promises.proofs.Texts.{begins_by_take, then_rest, begins_padded, pad_length}
 use Rattle.tftp_promises.proofs.MovedSends.{gave_first}
-use Rattle.tftp_promises.proofs.Invariant.{GaveSo, HasStored, IsFreshBy, IsKept, IsNamed, IsGiven, IsTaken, TookSo}
-use Rattle.tftp_promises.proofs.Invariant.{length_of, place_text}
+use Rattle.tftp_promises.proofs.Invariant.{GaveSo, IsFreshBy, IsKept, IsNamed, IsGiven, IsTaken, TookSo, length_of}
+use Rattle.tftp_promises.proofs.Invariant.{place_text}
 use Rattle.tftp_promises.proofs.KeptAsks.{says_request}
-use Rattle.tftp_promises.proofs.KeptOpenings.{at_server, came_here, its_place, none_there, opening_keeps, refusal_keeps}
-use Rattle.tftp_promises.proofs.KeptOpenings.{silent_keeps}
+use Rattle.tftp_promises.proofs.KeptOpenings.{at_server, its_place, moved_here, none_there, opened_here, opening_keeps}
+use Rattle.tftp_promises.proofs.KeptOpenings.{refusal_keeps, silent_keeps}
+use Rattle.tftp_promises.proofs.TransferLives.{run_config}
 use Rattle.tftp_promises.proofs.Unanswered.{none_answers}
 
--- the end of a read sends, and that of a write has stored nothing yet
-pub read_sends : (agreed : List Known) (peer : Endpoint) (mode : Mode) (text : List ℕ) (retries : ℕ) →
-    is_sender (sending agreed peer mode text retries).role.side ≡ true
-read_sends [] peer mode text retries = refl
-read_sends (known ∷ agreed) peer mode text retries = refl
+-- an end that opens: it sends or receives, in this mode, and has the client as its peer
+record OpensSo (e : EndState) (sends : Bool) (client : Endpoint) (its_mode : Mode) : Type 0 where
+  side : is_sender e.role.side ≡ sends
+  mode : e.role.mode ≡ its_mode
+  peer : peer_of e.position.phase ≡ Some client
+  still : outcome_of e.position.phase ≡ None
 
-pub write_stores : (agreed : List Known) (peer : Endpoint) (mode : Mode) (retries : ℕ) →
-    is_sender (serving_write agreed peer mode retries).role.side ≡ false
-write_stores [] peer mode retries = refl
-write_stores (known ∷ agreed) peer mode retries = refl
+read_opens : (agreed : List Known) (client : Endpoint) (mode : Mode) (measured retries : ℕ) (piece : List ℕ) →
+    OpensSo (serving_read agreed client mode measured retries piece) true client mode
+read_opens agreed client mode measured retries piece = search rules
 
-pub read_mode : (agreed : List Known) (peer : Endpoint) (mode : Mode) (text : List ℕ) (retries : ℕ) →
-    (sending agreed peer mode text retries).role.mode ≡ mode
-read_mode [] peer mode text retries = refl
-read_mode (known ∷ agreed) peer mode text retries = refl
+write_opens : (agreed : List Known) (client : Endpoint) (mode : Mode) (retries : ℕ) →
+    OpensSo (serving_write agreed client mode retries) false client mode
+write_opens agreed client mode retries = search rules
 
-pub write_mode : (agreed : List Known) (peer : Endpoint) (mode : Mode) (retries : ℕ) →
-    (serving_write agreed peer mode retries).role.mode ≡ mode
-write_mode [] peer mode retries = refl
-write_mode (known ∷ agreed) peer mode retries = refl
-
-pub read_length : (agreed : List Known) (peer : Endpoint) (mode : Mode) (measured retries : ℕ) (piece : List ℕ) →
+read_length : (agreed : List Known) (peer : Endpoint) (mode : Mode) (measured retries : ℕ) (piece : List ℕ) →
     (serving_read agreed peer mode measured retries piece).role.length ≡ measured
 read_length agreed peer mode measured retries piece = search rules
 
--- the peer of both is the client
-pub read_peer : (agreed : List Known) (peer : Endpoint) (mode : Mode) (text : List ℕ) (retries : ℕ) →
-    peer_of (sending agreed peer mode text retries).position.phase ≡ Some peer
-read_peer [] peer mode text retries = refl
-read_peer (known ∷ agreed) peer mode text retries = refl
-
-pub write_peer : (agreed : List Known) (peer : Endpoint) (mode : Mode) (retries : ℕ) →
-    peer_of (serving_write agreed peer mode retries).position.phase ≡ Some peer
-write_peer [] peer mode retries = refl
-write_peer (known ∷ agreed) peer mode retries = refl
-
--- both are open
-pub read_still : (agreed : List Known) (peer : Endpoint) (mode : Mode) (text : List ℕ) (retries : ℕ) →
-    outcome_of (sending agreed peer mode text retries).position.phase ≡ None
-read_still [] peer mode text retries = refl
-read_still (known ∷ agreed) peer mode text retries = refl
-
-pub write_still : (agreed : List Known) (peer : Endpoint) (mode : Mode) (retries : ℕ) →
-    outcome_of (serving_write agreed peer mode retries).position.phase ≡ None
-write_still [] peer mode retries = refl
-write_still (known ∷ agreed) peer mode retries = refl
-
-pub write_moves_none : (agreed : List Known) (peer : Endpoint) (mode : Mode) (retries : ℕ) →
+write_moves_none : (agreed : List Known) (peer : Endpoint) (mode : Mode) (retries : ℕ) →
     (first_moved (serving_write agreed peer mode retries)).bytes ≡ []
-write_moves_none [] peer mode retries = refl
-write_moves_none (known ∷ agreed) peer mode retries = refl
+write_moves_none agreed peer mode retries = search rules
 
 -- what a read sends first is of the text that begins so
-pub first_of_text : (agreed : List Known) (peer : Endpoint) (mode : Mode) (measured retries : ℕ) (piece text : List ℕ) →
+first_of_text : (agreed : List Known) (peer : Endpoint) (mode : Mode) (measured retries : ℕ) (piece text : List ℕ) →
     IsFirst agreed measured piece → length text ≡ measured →
     (length (first_moved (serving_read agreed peer mode measured retries piece)).bytes ≤ measured →
     IsPrefixOf (first_moved (serving_read agreed peer mode measured retries piece)).bytes text) →
@@ -165,70 +136,48 @@ module _ {S F D G K : Type 0} {stores : StoreMeaning S D} {sources : SourceMeani
           request = answers.bytes;
         }
 
-    send_text : (file text : List ℕ) → length text ≡ o.measured →
-        serving_read o.agreed answers.from r.mode o.measured server.config.retries o.piece ≡ sending o.agreed
-        answers.from r.mode text server.config.retries →
-        HasStored pad now (new_sender a answers.bytes o.agreed answers.from r.mode path file text
-        server.config.retries) (Source o.rest) → IsKept pad now
-    send_text file text long end has =
-        let x = new_sender a answers.bytes o.agreed answers.from r.mode path file text server.config.retries in
-        let fits : Fits text (size o.agreed) = subst (λ (n : ℕ). n < 65535 * size o.agreed) (sym long) o.fits in
-        opening_keeps kept answers added noted fresh sent server.store o.is x refl
-        (read_peer o.agreed answers.from r.mode text server.config.retries) (sym end) refl refl
-        (named false path mode options asked) (read_still o.agreed answers.from r.mode text server.config.retries)
-        (opens_to_send (joined programs) kept.shown.0 kept.views kept.messages a answers.from answers.bytes r path file
-        text o.agreed server.config.retries kept.shown.1
-        (at_server kept answers added noted fresh sent server.store o.is)
-        (none_there kept answers added noted fresh sent server.store o.is)
-        (newly false path mode options asked) o.granted fits) has
-
-    its_opening : opened_at programs a now.run ≡ Some sent
-    its_opening =
-        ap (λ (z : Option (TransferState F D)). or_before z (opened_at programs a old.run))
-        (came_here kept answers added noted fresh sent server.store o.is)
-
-    its_moved : moved_at programs a now.run ≡ first_moved sent.end
-    its_moved =
-        ap (λ (z : Option (TransferState F D)). opening_moves z (moved_at programs a old.run))
-        (came_here kept answers added noted fresh sent server.store o.is)
-
     sending_keeps : IsKept pad now
     sending_keeps =
         let text = place_text programs pad a in
         let told = fresh.told a (its_place kept answers added noted fresh sent server.store o.is) in
-        let long =
-        ap length_of (sym told.opened) ∙ (ap length_of its_opening ∙ read_length o.agreed answers.from r.mode o.measured
-        server.config.retries o.piece) in
+        let its_opening = opened_here kept answers added noted fresh sent server.store o.is in
+        let moved = moved_here kept answers added noted fresh sent server.store o.is in
+        let long_so = read_length o.agreed answers.from r.mode o.measured server.config.retries o.piece in
+        let long = ap length_of (sym told.opened) ∙ (ap length_of its_opening ∙ long_so) in
         let measured =
         pad_length pad (length_of (opened_at programs a programs.server.run)) (moved_at programs a
         programs.server.run).bytes ∙ long in
         let all : List ℕ = (moved_at programs a programs.server.run).bytes in
-        let begins = subst (λ (m : Moved). IsPrefixOf m.bytes all) its_moved told.bytes in
+        let begins = subst (λ (m : Moved). IsPrefixOf m.bytes all) moved told.bytes in
         let f =
         first_of_text o.agreed answers.from r.mode o.measured server.config.retries o.piece text o.first measured
         (λ short. begins_padded pad (length_of (opened_at programs a programs.server.run)) (first_moved sent.end).bytes
         all begins (subst (λ (n : ℕ). length (first_moved sent.end).bytes ≤ n) (sym long) short)) in
         let x = new_sender a answers.bytes o.agreed answers.from r.mode path [] text server.config.retries in
-        let gave = subst (λ (m : Moved). GaveSo x m) (sym its_moved) (record { prefix = f.1; left = λ _. f.2 }) in
+        let opens =
+        read_opens o.agreed answers.from r.mode (length text) server.config.retries (block text DEFAULT_BLOCK 1) in
+        let gave = subst (λ (m : Moved). GaveSo x m) (sym moved) (record { prefix = f.1; left = λ _. f.2 }) in
         let opened = subst (λ (m : Mode). IsOpenedBy stores sources server answers.from answers.bytes path m
-        answers.steps.came o.opening) (sym (read_mode o.agreed answers.from r.mode text server.config.retries)) o.opened
-        in
-        let given : IsGiven programs now.run x o.rest = record {
+        answers.steps.came o.opening) (sym opens.mode) o.opened in
+        let given : IsGiven programs now.run o.rest x (moved_at programs a now.run) = record {
           opening = o.opening;
           first = inl (refl, opened.0, opened.1, opened.2);
-          long =
-              ap (λ (e : EndState). e.role.length) (sym f.0) ∙ (read_length o.agreed answers.from r.mode o.measured
-              server.config.retries o.piece ∙ o.long);
-          since = subst (λ (m : Moved). GaveSince sources o.opening.source x.state m.bytes o.rest) (sym its_moved)
+          long = ap (λ (e : EndState). e.role.length) (sym f.0) ∙ (long_so ∙ o.long);
+          since = subst (λ (m : Moved). GaveSince sources o.opening.source x.state m.bytes o.rest) (sym moved)
               (gave_first o.gave);
         } in
-        send_text [] text measured f.0 (record {
-          sender = read_sends o.agreed answers.from r.mode text server.config.retries;
+        opening_keeps kept answers added noted fresh sent server.store o.is x refl opens.peer (sym f.0) refl refl
+        (named false path mode options asked) opens.still
+        (opens_to_send (joined programs) kept.shown.0 kept.views kept.messages a answers.from answers.bytes r path []
+        text o.agreed server.config.retries kept.shown.1
+        (at_server kept answers added noted fresh sent server.store o.is)
+        (none_there kept answers added noted fresh sent server.store o.is)
+        (newly false path mode options asked) o.granted
+        (subst (λ (n : ℕ). n < 65535 * size o.agreed) (sym measured) o.fits)) (record {
           opened =
               record { opening = sent; opened = its_opening; path = refl; role = ap (λ (e : EndState). e.role) f.0 };
-          text = refl;
-          gave = gave;
-          given = given;
+          text = λ _. refl;
+          file = (opens.side, gave, given);
         })
 
   -- a write
@@ -249,31 +198,17 @@ module _ {S F D G K : Type 0} {stores : StoreMeaning S D} {sources : SourceMeani
     abbrev receiver : OpenEnd
     receiver = new_receiver a answers.bytes o.agreed answers.from asked.request.mode path server.config.retries
 
-    store_has : HasStored pad now receiver (Sink o.draft) → IsKept pad now
-    store_has has =
-        opening_keeps kept answers added noted fresh stored_by o.store o.is
-        receiver refl (write_peer o.agreed answers.from asked.request.mode server.config.retries) refl refl refl
-        (named true path mode options asked)
-        (write_still o.agreed answers.from asked.request.mode server.config.retries)
-        (opens_to_store (joined programs) kept.shown.0 kept.views kept.messages a answers.from answers.bytes
-        asked.request path o.agreed server.config.retries kept.shown.1
-        (at_server kept answers added noted fresh stored_by o.store o.is)
-        (none_there kept answers added noted fresh stored_by o.store o.is)
-        (newly true path mode options asked) o.granted) has
-
     storing_keeps : IsKept pad now
     storing_keeps =
-        let moved : moved_at programs a now.run ≡ first_moved stored_by.end =
-        ap (λ (z : Option (TransferState F D)). opening_moves z (moved_at programs a old.run)) (came_here kept answers
-        added noted fresh stored_by o.store o.is) in
+        let moved = moved_here kept answers added noted fresh stored_by o.store o.is in
         let none : (first_moved stored_by.end).bytes ≡ [] =
         write_moves_none o.agreed answers.from asked.request.mode server.config.retries in
+        let opens = write_opens o.agreed answers.from asked.request.mode server.config.retries in
         let begun = subst (λ (m : Mode). IsBegunBy stores sources server answers.from answers.bytes path m
-        answers.steps.came o.draft) (sym (write_mode o.agreed answers.from asked.request.mode server.config.retries))
-        o.begun in
-        let taken : IsTaken programs now.run receiver o.draft = record {
+        answers.steps.came o.draft) (sym opens.mode) o.begun in
+        let taken : IsTaken programs now.run o.draft receiver (moved_at programs a now.run) = record {
           first = o.draft;
-          began = inl (refl, ap (λ (c : Config). c.overwrite) kept.server.config, begun.0, begun.1, begun.2);
+          began = inl (refl, ap (λ (c : Config). c.overwrite) (run_config stores sources old.run), begun.0, begun.1, begun.2);
           since = record {
             going =
                 λ _ _. subst (λ (bs : List ℕ). TakesInTurn stores o.draft bs o.draft) (sym (ap (λ (m : Moved). m.bytes)
@@ -281,17 +216,27 @@ module _ {S F D G K : Type 0} {stores : StoreMeaning S D} {sources : SourceMeani
             done = λ c. absurd (true≢false (sym c));
           };
         } in
-        store_has (search (
-          write_stores o.agreed answers.from asked.request.mode server.config.retries,
-          ap (λ (z :
-              Option (TransferState F D)). or_before z (opened_at programs a old.run)) (came_here kept answers added
-              noted fresh stored_by o.store o.is),
-          subst (λ (m : Moved). TookSo receiver m) (sym moved) (record {
-            stored = sym none;
-            committed = λ c. absurd (true≢false (sym c));
-            refuses = refl;
-          }),
-        ))
+        opening_keeps kept answers added noted fresh stored_by o.store o.is receiver refl opens.peer refl refl refl
+        (named true path mode options asked) opens.still
+        (opens_to_store (joined programs) kept.shown.0 kept.views kept.messages a answers.from answers.bytes
+        asked.request path o.agreed server.config.retries kept.shown.1
+        (at_server kept answers added noted fresh stored_by o.store o.is)
+        (none_there kept answers added noted fresh stored_by o.store o.is)
+        (newly true path mode options asked) o.granted) (record {
+          opened = record {
+            opening = stored_by;
+            opened = opened_here kept answers added noted fresh stored_by o.store o.is;
+            path = refl;
+            role = refl;
+          };
+          text = λ s. absurd (true≢false (sym s ∙ opens.side));
+          file = (
+            opens.side,
+            subst (λ (m : Moved). TookSo receiver m) (sym moved)
+                (record { stored = sym none; committed = λ c. absurd (true≢false (sym c)); refuses = refl }),
+            taken,
+          );
+        })
 
   -- ---- the answer
   kept_by : PortAnswers stores sources server answers.from answers.bytes answers.steps.decoded answers.steps.repeated answers.steps.came → IsKept pad now
@@ -307,7 +252,7 @@ module _ {S F D G K : Type 0} {stores : StoreMeaning S D} {sources : SourceMeani
       options answers.steps.came) (sym asked.same_mode) opens)
 
   max_block : IsBlockSize server.config.limits.max_block
-  max_block = subst (λ (c : Config). IsBlockSize c.limits.max_block) (sym kept.server.config) programs.server.max_block
+  max_block = subst (λ (c : Config). IsBlockSize c.limits.max_block) (sym (run_config stores sources old.run)) programs.server.max_block
 
   -- each answer to a request keeps the invariant
   pub request_keeps : IsKept pad now

@@ -2,232 +2,245 @@
 use Rattle.tftp_promises.proofs.Common.{List, ℕ, ◌≡◌, rules, sym, Endpoint, [], ◌∙◌, ap, SourceMeaning, Some, subst}
 use Rattle.tftp_promises.proofs.Common.{inl, StoreMeaning, inr, SinkMeaning, ◌++◌, Programs, ◌⊎◌, Contains, Files}
 use Rattle.tftp_promises.proofs.Common.{SocketEvent, Option, LoopState, slice_get, TransferState, LoopStep, Sent}
-use Rattle.tftp_promises.proofs.Common.{joined, ClientOf, OpenEnd, client_at, endpoint, Snapshot, at, IsStranger, Moved}
-use Rattle.tftp_promises.proofs.Common.{Sink, Source, Message, EndView, requests_at, server_did, IsShown, WasSentBefore}
-use Rattle.tftp_promises.proofs.Common.{place_at, moved_at, Contains-append_cases, IsAmong, opened_at, ClientStage}
-use Rattle.tftp_promises.proofs.Common.{HasClosed, GaveSince, Removes, append-nil, or_before}
-use Rattle.tftp_promises.proofs.Invariant.{IsThere, IsViewed, HasTransferBy, StageKept, TransferKept, ServerKept}
-use Rattle.tftp_promises.proofs.Invariant.{IsOfClient, IsOfTransfer, IsKept, SendsText, HasArrived, IsGiven, IsOpened}
-use Rattle.tftp_promises.proofs.Invariant.{GaveSo, TookSo, HasStored, IsTaken, AreKeyedOnce, same_transfer}
-use Rattle.tftp_promises.proofs.KeptViews.{sent_still, there_still, arrived_still, viewed_still}
+use Rattle.tftp_promises.proofs.Common.{joined, ClientOf, OpenEnd, client_at, endpoint, Snapshot, IsStranger, Moved}
+use Rattle.tftp_promises.proofs.Common.{Sink, Source, Message, EndView, server_did, IsShown, WasSentBefore, place_at}
+use Rattle.tftp_promises.proofs.Common.{moved_at, Contains-append_cases, IsAmong, opened_at, Removes, append-nil}
+use Rattle.tftp_promises.proofs.Common.{or_before, append_cancel_right, Run, Then, Bool, true, false, ◌≢◌}
+use Rattle.tftp_promises.proofs.Common.{Contains-append_right}
+use Rattle.tftp_promises.proofs.Invariant.{IsThere, HasTransferBy, TransferKept, IsOfClient, IsOfTransfer, IsKept}
+use Rattle.tftp_promises.proofs.Invariant.{IsGiven, FileSo, AreApart, HasStored, IsTaken, StandsAt, apart_once}
+use Rattle.tftp_promises.proofs.Invariant.{same_transfer}
+use Rattle.tftp_promises.proofs.MovedStores.{took_longer}
+use Rattle.tftp_promises.proofs.KeptViews.{HasCome, TurnsHere, arrived_still, rests, sent_still, stage_still}
+use Rattle.tftp_promises.proofs.KeptViews.{viewed_still}
 use Rattle.tftp_promises.proofs.Places.{placed_by, places}
 use Rattle.tftp_promises.proofs.MovedSteps.{MovesNone}
 use Rattle.tftp_promises.proofs.Orders.{IsSilent}
 
+-- what was sent of these events is among these messages, unless it is for a stranger
+abbrev pub AreSent : {S F D G K : Type 0} {stores : StoreMeaning S D} {sources : SourceMeaning F}
+    {inputs : SourceMeaning G} {outputs : SinkMeaning K} (programs : Programs stores sources inputs outputs) →
+    List Message → List SocketEvent → Type 0
+AreSent programs messages added =
+    (port : ℕ) (to : Endpoint) (bytes : List ℕ) → Contains added (Sent port to bytes) →
+    IsThere messages (endpoint programs.ip port) to bytes ⊎ IsStranger programs to
+
+-- a step sent nothing, if it noted these events, of which none was sent
+pub silent_by : (noted added rest : List SocketEvent) {events : List SocketEvent} → events ≡ noted ++ rest →
+    events ≡ added ++ rest → IsSilent noted → IsSilent added
+silent_by noted added rest is added_is silent =
+    subst (λ (es : List SocketEvent). IsSilent es) (append_cancel_right noted added rest (sym is ∙ added_is)) silent
+
 module _ {S F D G K : Type 0} {stores : StoreMeaning S D} {sources : SourceMeaning F} {inputs : SourceMeaning G}
-    {outputs : SinkMeaning K} {programs : Programs stores sources inputs outputs} {pad : ℕ} where
-  -- what a step of the server did to the ends and the messages
-  pub record ServerTurns {old : Snapshot programs} (kept : IsKept pad old) (then : Snapshot programs)
-      (added : List SocketEvent) : Type 0 where
-    pub views : List EndView
-    pub said_now : List Message
-    pub shown : IsShown (joined programs) views (kept.messages ++ said_now)
-    pub sends : (port : ℕ) (to : Endpoint) (bytes : List ℕ) → Contains added (Sent port to bytes) →
-        IsThere (kept.messages ++ said_now) (endpoint programs.ip port) to bytes ⊎ IsStranger programs to
-    pub server : ServerKept (kept.messages ++ said_now) then
-    -- the end of a client stays viewed
-    pub clients : (k : ℕ) (client : ClientOf programs) → slice_get programs.clients k ≡ Some client → (z : OpenEnd) →
-        z.address ≡ client_at client → IsViewed (joined programs) (SendsText programs pad) kept.views kept.messages z →
-        IsViewed (joined programs) (SendsText programs pad) views (kept.messages ++ said_now) z
-    pub transfers : (port : ℕ) (transfer : TransferState F D) (a : Endpoint) → HasTransferBy then port transfer a →
-        TransferKept pad views (kept.messages ++ said_now) then port transfer a
-    pub only : (view : EndView) → IsAmong views view → IsAmong kept.views view ⊎ IsOfTransfer then view.address
-    pub were : (a : Endpoint) → IsOfTransfer old a → IsOfTransfer then a
+    {outputs : SinkMeaning K} (programs : Programs stores sources inputs outputs) where
+  -- what its source gave, or its draft took, is known by a longer run
+  pub file_later : {old new : LoopState S F D} (run : Run (LoopStep stores sources) programs.server.start old)
+      (does : LoopStep stores sources old new) (x : OpenEnd) (moved : Moved) (files : Files F D) →
+      FileSo (IsGiven programs run) (IsTaken programs run) files x moved →
+      FileSo (IsGiven programs (Then run does)) (IsTaken programs (Then run does)) files x moved
+  file_later run does x moved (Source source) h = (
+    h.0,
+    h.1,
+    record { opening = h.2.opening; first = inr h.2.first; long = h.2.long; since = h.2.since },
+  )
+  file_later run does x moved (Sink draft) h = (
+    h.0,
+    h.1,
+    record { first = h.2.first; began = inr h.2.began; since = took_longer (λ store been. inr been) h.2.since },
+  )
 
-  module _ {old : Snapshot programs} (kept : IsKept pad old) {new : LoopState S F D}
-      (does : LoopStep stores sources old.state new) (added : List SocketEvent)
-      (turns : ServerTurns kept (server_did old does added) added) where
-    abbrev all_messages : List Message
-    all_messages = kept.messages ++ turns.said_now
+module _ {S F D G K : Type 0} {stores : StoreMeaning S D} {sources : SourceMeaning F} {inputs : SourceMeaning G}
+    {outputs : SinkMeaning K} {programs : Programs stores sources inputs outputs} where
+  -- what is known of a transfer's file stays known where nothing moves
+  pub stored_after : (pad : ℕ) (old : Snapshot programs) {new : LoopState S F D}
+      (does : LoopStep stores sources old.state new) (added : List SocketEvent) (x : OpenEnd) →
+      MovesNone programs old.run does x.address → (files : Files F D) → HasStored pad old x files →
+      HasStored pad (server_did old does added) x files
+  stored_after pad old does added x none files h = record {
+    opened = record {
+      opening = h.opened.opening;
+      opened =
+          ap (λ (o : Option (TransferState F D)). or_before o (opened_at programs x.address old.run)) none.opens
+          ∙ h.opened.opened;
+      path = h.opened.path;
+      role = h.opened.role;
+    };
+    text = h.text;
+    file =
+        subst (λ (m : Moved). FileSo (IsGiven programs (Then old.run does)) (IsTaken programs (Then old.run does)) files
+        x m) (sym (none.moves (moved_at programs x.address old.run))) (file_later programs old.run does x _ files h.file);
+  }
 
-    abbrev then : Snapshot programs
-    then = server_did old does added
+module _ {S F D G K : Type 0} {stores : StoreMeaning S D} {sources : SourceMeaning F} {inputs : SourceMeaning G}
+    {outputs : SinkMeaning K} {programs : Programs stores sources inputs outputs} {pad : ℕ}
+    {old : Snapshot programs} (kept : IsKept pad old) {new : LoopState S F D}
+    (does : LoopStep stores sources old.state new) (added : List SocketEvent) where
+  abbrev then : Snapshot programs
+  then = server_did old does added
+
+  module _ {Here : Endpoint → Type 0} (turns : TurnsHere kept Here)
+      (sends : AreSent programs (kept.messages ++ turns.said_now) added) (pending : HasCome kept new.pending)
+      (no_client : (k : ℕ) (client : ClientOf programs) → slice_get programs.clients k ≡ Some client →
+      Here (client_at client) → ⊥) (apart : AreApart then)
+      (known : (port : ℕ) (transfer : TransferState F D) (a : Endpoint) → HasTransferBy then port transfer a →
+      Contains (places programs then.run) a)
+      (transfers : (port : ℕ) (transfer : TransferState F D) (a : Endpoint) → HasTransferBy then port transfer a →
+      TransferKept pad turns.next (kept.messages ++ turns.said_now) then port transfer a)
+      (there : (a : Endpoint) → IsOfTransfer old a ⊎ Here a → IsOfTransfer then a) where
+    abbrev messages : List Message
+    messages = kept.messages ++ turns.said_now
 
     abbrev Arrives : Endpoint → Endpoint → List ℕ → Type 0
-    Arrives from to bytes = IsThere all_messages from to bytes ⊎ IsStranger programs to
+    Arrives from to bytes = IsThere messages from to bytes ⊎ IsStranger programs to
 
     before : (from to : Endpoint) (bytes : List ℕ) → WasSentBefore old from to bytes → Arrives from to bytes
     before from to bytes h = sent_still programs kept.messages turns.said_now (kept.sent from to bytes h)
 
     all_sent : (from to : Endpoint) (bytes : List ℕ) → WasSentBefore then from to bytes → Arrives from to bytes
     all_sent from to bytes (inl h) = elim (Contains-append_cases added old.noted (Sent h.port to bytes) h.sent) [
-      | inl c ↦ subst (λ (a : Endpoint). Arrives a to bytes) (sym h.at) (turns.sends h.port to bytes c)
+      | inl c ↦ subst (λ (a : Endpoint). Arrives a to bytes) (sym h.at) (sends h.port to bytes c)
       | inr c ↦ before from to bytes (inl (record { port = h.port; at = h.at; sent = c }))
     ]
     all_sent from to bytes (inr h) = before from to bytes (inr h)
 
-    all_clients : (k : ℕ) (client : ClientOf programs) (stage : ClientStage G K) →
-        slice_get programs.clients k ≡ Some client → StageKept programs pad kept.views kept.messages client stage →
-        StageKept programs pad turns.views all_messages client stage
-    all_clients k client stage found h = search (rules, there_still)
-
-    all_views : (view : EndView) → IsAmong turns.views view →
+    all_views : (view : EndView) → IsAmong turns.next view →
         IsOfClient programs then.clients view.address ⊎ IsOfTransfer then view.address
     all_views view among = search rules
 
     pub server_keeps : IsKept pad then
     server_keeps = record {
-      views = turns.views;
-      messages = all_messages;
+      views = turns.next;
+      messages = messages;
       shown = turns.shown;
       sent = all_sent;
-      server = turns.server;
-      clients = λ k client stage found is. all_clients k client stage found (kept.clients k client stage found is);
-      transfers = turns.transfers;
+      server = record {
+        pending = λ from bytes e. arrived_still kept.messages turns.said_now (pending from bytes e);
+        apart = apart;
+        once = apart_once then apart;
+        opened = known;
+      };
+      clients = λ k client stage found is.
+          stage_still turns.said_now client stage (λ z here h.
+          turns.others z (λ at. no_client k client found (rw (← here) at)) h) (kept.clients k client stage found is);
+      transfers = transfers;
       only = all_views;
     }
 
-  -- What a step of the server leaves as it was, if it opens and removes no transfer.
-  pub record ServerStays {old : Snapshot programs} (kept : IsKept pad old) {new : LoopState S F D}
-      (does : LoopStep stores sources old.state new) : Type 0 where
-    -- it opens no transfer, and each is where it was
-    pub opens : placed_by programs old.run does ≡ []
-    pub seats : (port : ℕ) → place_at programs port (server_did old does []).run ≡ place_at programs port old.run
-    pub removes : (port : ℕ) (transfer : TransferState F D) → Removes does port transfer → ⊥
-    pub requests : new.requests ≡ old.state.requests
-    pub config : new.server.config ≡ old.state.server.config
-    -- a pending datagram was sent
-    pub pending : (from : Endpoint) (bytes : List ℕ) → new.pending ≡ Some (from, bytes) →
-        HasArrived kept.messages from (requests_at programs) bytes
+  -- ---- a step that changes one transfer, which is at this place then, and leaves all others
+  module _ (g : Bool) (port : ℕ) (transfer : TransferState F D) (place : Endpoint)
+      (stands : StandsAt then g port transfer place)
+      (from : (h : Bool) (q : ℕ) (u : TransferState F D) (a : Endpoint) → StandsAt then h q u a →
+      ((h ≡ g) × (q ≡ port) × (u ≡ transfer) × (a ≡ place)) ⊎ ((place ≢ a) × StandsAt old h q u a))
+      (onto : (h : Bool) (q : ℕ) (u : TransferState F D) (a : Endpoint) → StandsAt old h q u a →
+      (place ≡ a) ⊎ StandsAt then h q u a) (known : Contains (places programs then.run) place)
+      (no_client : (k : ℕ) (client : ClientOf programs) → slice_get programs.clients k ≡ Some client →
+      client_at client ≢ place) (none : (a : Endpoint) → place ≢ a → MovesNone programs old.run does a)
+      (turns : TurnsHere kept (λ (a : Endpoint). place ≡ a))
+      (sends : AreSent programs (kept.messages ++ turns.said_now) added) (pending : HasCome kept new.pending)
+      (own : TransferKept pad turns.next (kept.messages ++ turns.said_now) then port transfer place) where
+    apart : AreApart then
+    apart h k p q t u a x y = elim (from h p t a x) [
+      | inl e ↦ elim (from k q u a y) [
+        | inl f ↦ (e.0 ∙ sym f.0, e.1 ∙ sym f.1, e.2 ∙ sym f.2)
+        | inr f ↦ absurd (f.0 (sym e.3))
+      ]
+      | inr e ↦ elim (from k q u a y) [
+        | inl f ↦ absurd (e.0 (sym f.3))
+        | inr f ↦ kept.server.apart h k p q t u a e.1 f.1
+      ]
+    ]
 
-module _ {S F D G K : Type 0} {stores : StoreMeaning S D} {sources : SourceMeaning F} {inputs : SourceMeaning G}
-    {outputs : SinkMeaning K} {programs : Programs stores sources inputs outputs} where
-  -- the same transfer stands at a place where nothing moves
-  opened_after : (old : Snapshot programs) {new : LoopState S F D} (does : LoopStep stores sources old.state new)
-      (added : List SocketEvent) (x : OpenEnd) → MovesNone programs old.run does x.address →
-      IsOpened programs old.run x → IsOpened programs (server_did old does added).run x
-  opened_after old does added x none h = record {
-    opening = h.opening;
-    opened =
-        ap (λ (o : Option (TransferState F D)). or_before o (opened_at programs x.address old.run)) none.opens
-        ∙ h.opened;
-    path = h.path;
-    role = h.role;
-  }
+    -- of each transfer
+    of_each : (P : ℕ → TransferState F D → Endpoint → Type 0) → P port transfer place →
+        ((q : ℕ) (u : TransferState F D) (a : Endpoint) → place ≢ a → HasTransferBy old q u a → P q u a) →
+        (q : ℕ) (u : TransferState F D) (a : Endpoint) → HasTransferBy then q u a → P q u a
+    of_each P this others q u a (inl h) = elim (from true q u a h) [
+      | inl e ↦ rw (e.1, e.2, e.3) this
+      | inr was ↦ others q u a was.0 (inl was.1)
+    ]
+    of_each P this others q u a (inr h) = elim (from false q u a h) [
+      | inl e ↦ rw (e.1, e.2, e.3) this
+      | inr was ↦ others q u a was.0 (inr was.1)
+    ]
 
-  moved_after : (old : Snapshot programs) {new : LoopState S F D} (does : LoopStep stores sources old.state new)
-      (added : List SocketEvent) (x : OpenEnd) → MovesNone programs old.run does x.address →
-      moved_at programs x.address old.run ≡ moved_at programs x.address (server_did old does added).run
-  moved_after old does added x none = sym (none.moves (moved_at programs x.address old.run))
+    other : (q : ℕ) (u : TransferState F D) (a : Endpoint) → place ≢ a → HasTransferBy old q u a →
+        TransferKept pad turns.next (kept.messages ++ turns.said_now) then q u a
+    other q u a n is =
+        let h = kept.transfers q u a is in
+        let away : place ≢ h.end.address = λ same. n (same ∙ h.address) in
+        same_transfer h (turns.others h.end away h.viewed)
+        (stored_after pad old does added h.end (none h.end.address away) u.files h.has)
 
-  -- what its source gave is the same
-  given_after : (old : Snapshot programs) {new : LoopState S F D} (does : LoopStep stores sources old.state new)
-      (added : List SocketEvent) (x : OpenEnd) → MovesNone programs old.run does x.address → (source : F) →
-      IsGiven programs old.run x source → IsGiven programs (server_did old does added).run x source
-  given_after old does added x none source h = record {
-    opening = h.opening;
-    first = inr h.first;
-    long = h.long;
-    since =
-        subst (λ (m : Moved). GaveSince sources h.opening.source x.state m.bytes source)
-        (moved_after old does added x none) h.since;
-  }
+    this_one : (h : Bool) → StandsAt then h port transfer place → IsOfTransfer then place
+    this_one true e = record { port = port; transfer = transfer; is_transfer = inl e }
+    this_one false e = record { port = port; transfer = transfer; is_transfer = inr e }
 
-  -- and so is what its draft took
-  taken_after : (old : Snapshot programs) {new : LoopState S F D} (does : LoopStep stores sources old.state new)
-      (added : List SocketEvent) (x : OpenEnd) → MovesNone programs old.run does x.address → (draft : D) →
-      IsTaken programs old.run x draft → IsTaken programs (server_did old does added).run x draft
-  taken_after old does added x none draft h = search rules
+    there : (a : Endpoint) → IsOfTransfer old a ⊎ (place ≡ a) → IsOfTransfer then a
+    there a (inr here) = rw (← here) (this_one g stands)
+    there a (inl h) = by h.is_transfer where
+      still : (place ≡ a) ⊎ HasTransferBy then h.port h.transfer a → IsOfTransfer then a
+      still (inl here) = rw (← here) (this_one g stands)
+      still (inr e) = record { port = h.port; transfer = h.transfer; is_transfer = e }
 
-  -- what is known of a transfer's file stays known
-  pub stored_after : (pad : ℕ) (old : Snapshot programs) {new : LoopState S F D}
-      (does : LoopStep stores sources old.state new) (added : List SocketEvent) → (x : OpenEnd) → MovesNone programs old.run does x.address → (files : Files F D) →
-      HasStored pad old x files → HasStored pad (server_did old does added) x files
-  stored_after pad old does added x none (Source source) h =
-      record {
-        sender = h.sender;
-        opened = opened_after old does added x none h.opened;
-        text = h.text;
-        gave = subst (λ (m : Moved). GaveSo x m) (moved_after old does added x none) h.gave;
-        given = given_after old does added x none source h.given;
-      }
-  stored_after pad old does added x none (Sink draft) h =
-      record {
-        receiver = h.receiver;
-        opened = opened_after old does added x none h.opened;
-        took = subst (λ (m : Moved). TookSo x m) (moved_after old does added x none) h.took;
-        taken = taken_after old does added x none draft h.taken;
-      }
+      by : HasTransferBy old h.port h.transfer a → IsOfTransfer then a
+      by (inl e) = elim (onto true h.port h.transfer a e) [ inl here ↦ still (inl here) | inr f ↦ still (inr (inl f)) ]
+      by (inr e) = elim (onto false h.port h.transfer a e) [ inl here ↦ still (inl here) | inr f ↦ still (inr (inr f)) ]
 
-module _ {S F D G K : Type 0} {stores : StoreMeaning S D} {sources : SourceMeaning F} {inputs : SourceMeaning G}
-    {outputs : SinkMeaning K} {programs : Programs stores sources inputs outputs} {pad : ℕ} where
-  module _ {old : Snapshot programs} (kept : IsKept pad old) {new : LoopState S F D}
-      (does : LoopStep stores sources old.state new) (stays : ServerStays kept does) (added : List SocketEvent) where
-    -- no transfer more was removed
-    pub closed_before : (port : ℕ) (transfer : TransferState F D) (a : Endpoint) →
-        HasClosed programs (server_did old does added).run port transfer a → HasClosed programs old.run port transfer a
-    closed_before port transfer a h3 = search rules
-
-    -- each place is one still
-    pub opened_still : (a : Endpoint) → Contains (places programs old.run) a →
-        Contains (places programs (server_did old does added).run) a
-    opened_still a c = subst (λ (ps : List Endpoint). Contains (ps ++ places programs old.run) a) (sym stays.opens) c
+    pub seat_keeps : IsKept pad then
+    seat_keeps =
+        server_keeps turns sends pending (λ k client found same. no_client k client found (sym same)) apart
+        (of_each (λ (q : ℕ) (u : TransferState F D) (a : Endpoint). Contains (places programs then.run) a) known
+        (λ q u a n is. Contains-append_right (placed_by programs old.run does) (places programs old.run) a
+        (kept.server.opened q u a is))) (of_each (λ (q : ℕ) (u : TransferState F D) (a : Endpoint).
+        TransferKept pad turns.next (kept.messages ++ turns.said_now) then q u a) own other) there
 
 -- A step of the server that changes no transfer keeps the invariant, if what it sends is shown.
 
 module _ {S F D G K : Type 0} {stores : StoreMeaning S D} {sources : SourceMeaning F} {inputs : SourceMeaning G}
-    {outputs : SinkMeaning K} {programs : Programs stores sources inputs outputs} {pad : ℕ} {old : Snapshot programs}
-    (kept : IsKept pad old) {new : LoopState S F D} (does : LoopStep stores sources old.state new)
-    (stays : ServerStays kept does) (none : (a : Endpoint) → MovesNone programs old.run does a)
-    (held : new.server.held ≡ old.state.server.held) (added : List SocketEvent) where
-  abbrev now : Snapshot programs
-  now = server_did old does added
+    {outputs : SinkMeaning K} {programs : Programs stores sources inputs outputs} {pad : ℕ}
+    {old : Snapshot programs} (kept : IsKept pad old) {new : LoopState S F D}
+    (does : LoopStep stores sources old.state new) where
+  -- it opens and removes no transfer, and each is where it was
+  pub record ServerStays : Type 0 where
+    pub seats : (port : ℕ) → place_at programs port (server_did old does []).run ≡ place_at programs port old.run
+    pub removes : (port : ℕ) (transfer : TransferState F D) → Removes does port transfer → ⊥
+    pub pending : HasCome kept new.pending
 
-  held_before : (port : ℕ) (transfer : TransferState F D) (a : Endpoint) → HasTransferBy now port transfer a →
-      HasTransferBy old port transfer a
-  held_before port transfer a h3 = search rules
+  module _ (stays : ServerStays) (none : (a : Endpoint) → MovesNone programs old.run does a)
+      (held : new.server.held ≡ old.state.server.held) (added : List SocketEvent) where
+    abbrev now : Snapshot programs
+    now = server_did old does added
 
-  held_after : (port : ℕ) (transfer : TransferState F D) (a : Endpoint) → HasTransferBy old port transfer a →
-      HasTransferBy now port transfer a
-  held_after port transfer a h3 = search rules
+    stood : (g : Bool) (port : ℕ) (transfer : TransferState F D) (a : Endpoint) → StandsAt now g port transfer a →
+        StandsAt old g port transfer a
+    stood g port transfer a h = search rules
 
-  -- what it sends is shown
-  module _ (said_now : List Message) (shown : IsShown (joined programs) kept.views (kept.messages ++ said_now))
-      (sends : (port : ℕ) (to : Endpoint) (bytes : List ℕ) → Contains added (Sent port to bytes) →
-      IsThere (kept.messages ++ said_now) (endpoint programs.ip port) to bytes ⊎ IsStranger programs to) where
-    abbrev messages : List Message
-    messages = kept.messages ++ said_now
+    held_before : (port : ℕ) (transfer : TransferState F D) (a : Endpoint) → HasTransferBy now port transfer a →
+        HasTransferBy old port transfer a
+    held_before port transfer a h3 = search rules
 
-    all_transfers : (port : ℕ) (transfer : TransferState F D) (a : Endpoint) →
-        HasTransferBy now port transfer a → TransferKept pad kept.views messages now port transfer a
-    all_transfers port transfer a is =
-        let h = kept.transfers port transfer a (held_before port transfer a is) in
-        search (rules, same_transfer, viewed_still, stored_after)
+    held_after : (port : ℕ) (transfer : TransferState F D) (a : Endpoint) → HasTransferBy old port transfer a →
+        HasTransferBy now port transfer a
+    held_after port transfer a h3 = search rules
 
-    server_kept : ServerKept messages now
-    server_kept = record {
-      requests = stays.requests ∙ kept.server.requests;
-      config = stays.config ∙ kept.server.config;
-      pending = λ from bytes e. arrived_still kept.messages said_now (stays.pending from bytes e);
-      once = subst (λ (hs : List (ℕ × TransferState F D)). AreKeyedOnce hs) (sym held) kept.server.once;
-      seats = search rules;
-      gone = λ p q t u a closed e same. kept.server.gone p q t u a (closed_before kept does stays added p t a closed)
-          (ap (at q) (sym held) ∙ e) (same ∙ stays.seats q);
-      gone_once =
-          λ p q t u a c d. kept.server.gone_once p q t u a (closed_before kept does stays added p t a c) (closed_before
-          kept does stays added q u a d);
-      opened =
-          λ port transfer a is. opened_still kept does stays added a (kept.server.opened port transfer a (held_before
-          port transfer a is));
-    }
+    still_there : (a : Endpoint) → IsOfTransfer old a ⊎ ⊥ → IsOfTransfer now a
+    still_there a (inl h) =
+        record { port = h.port; transfer = h.transfer; is_transfer = held_after h.port h.transfer a h.is_transfer }
+    still_there a (inr none) = absurd none
 
-    turns : ServerTurns kept now added
-    turns = record {
-      views = kept.views;
-      said_now = said_now;
-      shown = shown;
-      sends = sends;
-      server = server_kept;
-      clients = λ k client found z at_client h. viewed_still said_now h;
-      transfers = all_transfers;
-      only = λ view among. inl among;
-      were = λ a h. search (held_after h.port h.transfer a h.is_transfer);
-    }
+    pub says_keeps : (said_now : List Message) → IsShown (joined programs) kept.views (kept.messages ++ said_now) →
+        AreSent programs (kept.messages ++ said_now) added → IsKept pad now
+    says_keeps said_now shown sends =
+        server_keeps kept does added (rests {Here = λ (a : Endpoint). ⊥} said_now shown) sends stays.pending
+        (λ k client found here. here)
+        (λ g h p q t u a x y. kept.server.apart g h p q t u a (stood g p t a x) (stood h q u a y))
+        (λ port transfer a is. Contains-append_right (placed_by programs old.run does) (places programs old.run) a
+        (kept.server.opened port transfer a (held_before port transfer a is)))
+        (λ port transfer a is. let h = kept.transfers port transfer a (held_before port transfer a is) in
+        same_transfer h (viewed_still said_now h.viewed)
+        (stored_after pad old does added h.end (none h.end.address) transfer.files h.has)) still_there
 
-    pub says_keeps : IsKept pad now
-    says_keeps = server_keeps kept does added turns
-
-  -- it sends nothing
-  pub still_keeps : IsSilent added → IsKept pad now
-  still_keeps silent =
-      says_keeps [] (rw ((append-nil kept.messages)) kept.shown) (λ port to bytes c. absurd (silent port to bytes c))
+    -- it sends nothing
+    pub still_keeps : IsSilent added → IsKept pad now
+    still_keeps silent =
+        says_keeps [] (rw (append-nil kept.messages) kept.shown) (λ port to bytes c. absurd (silent port to bytes c))

@@ -1,39 +1,35 @@
--- Each step of the server keeps the invariant, if an answered request does.
-use Rattle.tftp_promises.proofs.Common.{List, ℕ, ◌≡◌, rules, sym, Endpoint, refl, [], ◌∙◌, ap, SourceMeaning, Some}
-use Rattle.tftp_promises.proofs.Common.{subst, inl, StoreMeaning, inr, ◌∷◌, SinkMeaning, true, None, ◌++◌, Programs}
-use Rattle.tftp_promises.proofs.Common.{EndState, ◌⊎◌, Contains, SocketEvent, LoopState, TransferState, LoopStep}
-use Rattle.tftp_promises.proofs.Common.{joined, Received, endpoint, Snapshot, IsStranger, Moved, ServerState}
-use Rattle.tftp_promises.proofs.Common.{cases_Bool, Contains-push, requests_at, server_did, our_ports, WasSentBefore}
-use Rattle.tftp_promises.proofs.Common.{place_at, Watched, Printed, Quiet, PortStep, Request_answered, state_is}
-use Rattle.tftp_promises.proofs.Common.{AnswersRequest, error_bytes, MayCome, port_state, is_ours, CanTake}
-use Rattle.tftp_promises.proofs.Common.{AllByRecursion, Slept, server_is, trace_is, Removes, ServesPort}
-use Rattle.tftp_promises.proofs.Common.{UnknownTransferId, Woke, port_moves, ReceivesAndHandles}
+-- Each step of the server keeps the invariant.
+use Rattle.tftp_promises.proofs.Common.{List, ℕ, ◌≡◌, rules, sym, Endpoint, refl, [], ◌∙◌, ap, SourceMeaning, subst}
+use Rattle.tftp_promises.proofs.Common.{inl, StoreMeaning, inr, ◌∷◌, SinkMeaning, true, None, ◌++◌, Programs, EndState}
+use Rattle.tftp_promises.proofs.Common.{◌⊎◌, Contains, SocketEvent, LoopState, LoopStep, joined, Received, endpoint}
+use Rattle.tftp_promises.proofs.Common.{Snapshot, IsStranger, Moved, cases_Bool, Contains-push, requests_at, server_did}
+use Rattle.tftp_promises.proofs.Common.{our_ports, WasSentBefore, place_at, Watched, Printed, Quiet, PortStep}
+use Rattle.tftp_promises.proofs.Common.{Request_answered, state_is, error_bytes, MayCome, port_state, is_ours, CanTake}
+use Rattle.tftp_promises.proofs.Common.{AllByRecursion, Slept, server_is, trace_is, ServesPort, UnknownTransferId, Woke}
+use Rattle.tftp_promises.proofs.Common.{port_moves, ReceivesAndHandles, ⊤, same_Some}
 use Rattle.tftp_loop.specs.Steps.{At_port, Waited, Request_received, Request_lost, Store_set, Transfer_closed}
-use Rattle.tftp_loop.specs.Steps.{ReceivesRequest, SetsStore, A_datagram, A_lost_datagram, A_timeout, Work}
-use Rattle.tftp_promises.proofs.Places.{placed_by, at_port, strange_if, stranger_no_port}
+use Rattle.tftp_loop.specs.Steps.{ReceivesRequest, A_datagram, A_lost_datagram, A_timeout, Work}
+use Rattle.tftp_promises.proofs.Places.{at_port, requests_stay, strange_if, stranger_no_port}
 use Rattle.tftp_promises.proofs.Invariant.{HasArrived, IsThere, IsKept, IsFreshBy, IsStrangers}
-use Rattle.tftp_promises.proofs.KeptCloses.{closing_keeps}
-use Rattle.tftp_promises.proofs.Orders.{IsSilent, IsUnsent, printed_silent, added_by, none_silent, unsent_silent}
-use Rattle.tftp_promises.proofs.Orders.{first_in}
+use Rattle.tftp_promises.proofs.KeptPorts.{closing_keeps}
+use Rattle.tftp_promises.proofs.Orders.{IsUnsent, printed_silent, added_by, unsent_silent, first_in}
 use Rattle.tftp_promises.proofs.KeptFresh.{fresh_before_server, ServerStepsKeep}
-use Rattle.tftp_promises.proofs.KeptServer.{still_keeps}
+use Rattle.tftp_promises.proofs.KeptServer.{ServerStays, silent_by, still_keeps}
+use Rattle.tftp_promises.proofs.KeptViews.{HasCome, arrives, errs, strays_in}
 use Rattle.tftp_promises.proofs.MovedSteps.{MovesNone}
 use Rattle.tftp_promises.proofs.NewPlaces.{at_server}
 use Rattle.tftp_promises.proofs.PortDatagrams.{datagram_keeps, wrong_keeps}
-use Rattle.tftp_promises.proofs.KeptViews.{arrives, errs, strays_in}
-use Rattle.tftp_promises.proofs.PortWork.{received_there, datagram_silent, lost_keeps, missed_keeps, work_keeps}
-use Rattle.tftp_promises.proofs.PortWork.{timeout_keeps}
+use Rattle.tftp_promises.proofs.PortWork.{received_there, lost_keeps, missed_keeps, work_keeps, timeout_keeps}
 use Rattle.tftp_promises.proofs.KeptRequests.{request_keeps}
 
 module _ {S F D G K : Type 0} {stores : StoreMeaning S D} {sources : SourceMeaning F} {inputs : SourceMeaning G}
     {outputs : SinkMeaning K} (programs : Programs stores sources inputs outputs) (pad : ℕ) where
-  -- a request that the server answers keeps the invariant
-  abbrev pub AnswersKeep : Type 0
-  AnswersKeep =
-      (old : Snapshot programs) (new : LoopState S F D) (answers : AnswersRequest stores sources old.state new)
-      (added : List SocketEvent) → IsKept pad old → IsFreshBy (server_did old (Request_answered answers) added) →
-      new.events ≡ added ++ old.state.events → CanTake old programs.ip added →
-      IsKept pad (server_did old (Request_answered answers) added)
+  -- a step that opens and removes no transfer, and handles no datagram at a port
+  abbrev IsIdle : {old new : LoopState S F D} → LoopStep stores sources old new → Type 0
+  IsIdle (At_port h) = ⊥
+  IsIdle (Request_answered h) = ⊥
+  IsIdle (Transfer_closed h) = ⊥
+  IsIdle does = ⊤
 
   module _ (old : Snapshot programs) (new : LoopState S F D) (kept : IsKept pad old) (added : List SocketEvent)
       (events : new.events ≡ added ++ old.state.events) (take : CanTake old programs.ip added) where
@@ -41,78 +37,28 @@ module _ {S F D G K : Type 0} {stores : StoreMeaning S D} {sources : SourceMeani
     added_is : (noted : List SocketEvent) → new.events ≡ noted ++ old.state.events → noted ≡ added
     added_is noted e = added_by 0 None noted old.state.events added (sym e ∙ events)
 
-    silent_by : (noted : List SocketEvent) → new.events ≡ noted ++ old.state.events → IsSilent noted → IsSilent added
-    silent_by noted e silent = subst (λ (es : List SocketEvent). IsSilent es) (added_is noted e) silent
-
     -- ---- a request is received
     request_came : (h : ReceivesRequest stores sources old.state new) →
         WasSentBefore old h.from (requests_at programs) h.bytes ⊎ MayCome programs h.from h.bytes
     request_came h =
         subst (λ port. WasSentBefore old h.from (endpoint programs.ip port) h.bytes ⊎ MayCome programs h.from h.bytes)
-        kept.server.requests (take old.state.requests h.from h.bytes (subst (λ es. Contains es (Received
+        (requests_stay programs old.run) (take old.state.requests h.from h.bytes (subst (λ es. Contains es (Received
         old.state.requests h.from h.bytes)) (added_is (Received old.state.requests h.from h.bytes ∷ []) (ap (λ s.
         s.events) h.is)) (Contains-push [] (Received old.state.requests h.from h.bytes))))
 
-    module _ (h : ReceivesRequest stores sources old.state new)
-        (come : HasArrived kept.messages h.from (requests_at programs) h.bytes) where
-      pending_sent : (from : Endpoint) (bytes : List ℕ) → new.pending ≡ Some (from, bytes) →
-          HasArrived kept.messages from (requests_at programs) bytes
-      pending_sent from bytes e =
-          let same : (h.from, h.bytes) ≡ (from, bytes) = search rules in
-          subst (λ (p : Endpoint × List ℕ). HasArrived kept.messages p.0 (requests_at programs) p.1) same come
+    -- ---- the transfers are as they were
+    idle_stays : (does : LoopStep stores sources old.state new) → IsIdle does → HasCome kept new.pending →
+        ServerStays kept does × ((a : Endpoint) → MovesNone programs old.run does a)
+    idle_stays does idle pending = search rules
 
-      server_same : new.server ≡ old.state.server
-      server_same = ap (λ (s : LoopState S F D). s.server) h.is
-
-      receiving_keeps : IsKept pad (server_did old (Request_received h) added)
-      receiving_keeps =
-          still_keeps kept (Request_received h) (record {
-            opens = refl;
-            seats = λ port. refl;
-            removes = λ port transfer r. r;
-            requests = ap (λ (s : LoopState S F D). s.requests) h.is;
-            config = ap (λ (s : ServerState S F D). s.config) server_same;
-            pending = pending_sent;
-          }) (λ a. record { opens = refl; moves = λ moved. refl }) (ap (λ (s : ServerState S F D). s.held) server_same)
-          added
-          (silent_by (Received old.state.requests h.from h.bytes ∷ []) (ap (λ (s : LoopState S F D). s.events) h.is)
-          (datagram_silent old.state.requests h.from h.bytes))
-
-    -- ---- the server is as it was, and no datagram more is pending
-    same_keeps : (does : LoopStep stores sources old.state new) → placed_by programs old.run does ≡ [] →
-        ((port : ℕ) → place_at programs port (server_did old does []).run ≡ place_at programs port old.run) →
-        ((port : ℕ) (transfer : TransferState F D) → Removes does port transfer → ⊥) →
-        ((a : Endpoint) → MovesNone programs old.run does a) → {left : LoopState S F D} → new ≡ left →
-        left.requests ≡ old.state.requests → left.server ≡ old.state.server →
-        ((from : Endpoint) (bytes : List ℕ) → left.pending ≡ Some (from, bytes) →
-        old.state.pending ≡ Some (from, bytes)) → (noted : List SocketEvent) →
+    same_keeps : (does : LoopStep stores sources old.state new) → IsIdle does → {left : LoopState S F D} → new ≡ left →
+        left.server.held ≡ old.state.server.held → HasCome kept left.pending → (noted : List SocketEvent) →
         left.events ≡ noted ++ old.state.events → AllByRecursion IsUnsent noted → IsKept pad (server_did old does added)
-    same_keeps does opens seats removes none is requests server pending noted e unsent =
-        let server_same : new.server ≡ old.state.server = ap (λ s. s.server) is ∙ server in
-        still_keeps kept does (record {
-          opens = opens;
-          seats = seats;
-          removes = removes;
-          requests = ap (λ s. s.requests) is ∙ requests;
-          config = ap (λ s. s.config) server_same;
-          pending =
-              λ from bytes e. kept.server.pending from bytes (pending from bytes (ap (λ s. s.pending) (sym is) ∙ e));
-        }) none (ap (λ s. s.held) server_same) added
-        (silent_by noted (ap (λ s. s.events) is ∙ e) (unsent_silent noted unsent))
-
-    -- ---- the store is set
-    store_keeps : (h : SetsStore stores sources old.state new) → IsKept pad (server_did old (Store_set h) added)
-    store_keeps h =
-        let server_now : new.server ≡ record old.state.server { store = h.store } = ap (λ s. s.server) h.is in
-        still_keeps kept (Store_set h) (record {
-          opens = refl;
-          seats = λ port. refl;
-          removes = λ port transfer r. r;
-          requests = ap (λ s. s.requests) h.is;
-          config = ap (λ s. s.config) server_now;
-          pending = λ from bytes e. kept.server.pending from bytes (sym (ap (λ s. s.pending) h.is) ∙ e);
-        }) (λ a. record { opens = refl; moves = λ moved. refl }) (ap (λ s. s.held) server_now) added (silent_by []
-        (ap (λ s. s.events) h.is) none_silent)
+    same_keeps does idle is held pending noted e unsent =
+        let stays =
+        idle_stays does idle (λ from bytes f. pending from bytes (ap (λ s. s.pending) (sym is) ∙ f)) in
+        still_keeps kept does stays.0 stays.1 (ap (λ s. s.server.held) is ∙ held) added
+        (silent_by noted added old.state.events (ap (λ s. s.events) is ∙ e) events (unsent_silent noted unsent))
 
     -- ---- at the port of a transfer
     module _ (serves : ServesPort stores sources old.state new)
@@ -208,42 +154,31 @@ module _ {S F D G K : Type 0} {stores : StoreMeaning S D} {sources : SourceMeani
       port_keeps : IsKept pad (server_did old (At_port serves) added)
       port_keeps = by_case serves.does refl
 
-  -- each step of the server
-  pub serves_keep : AnswersKeep → ServerStepsKeep programs pad
-  serves_keep answers_keep old new (At_port serves) added kept fresh events take =
+  -- each step of the server keeps the invariant
+  pub server_steps_keep : ServerStepsKeep programs pad
+  server_steps_keep old new (At_port serves) added kept fresh events take =
       port_keeps old new kept added events take serves fresh
-  serves_keep answers_keep old new (Request_received h) added kept fresh events take =
+  server_steps_keep old new (Request_received h) added kept fresh events take =
+      let first = first_in programs.port (our_ports programs old.run) in
       let a =
       arrives kept h.from (requests_at programs) h.bytes (stranger_no_port programs (requests_at programs)
-      (at_port programs programs.port (λ k client found. fresh.apart k programs.port client found
-      (first_in programs.port (our_ports programs old.run)))
-      (fresh.others programs.port (first_in programs.port (our_ports programs old.run)))))
+      (at_port programs programs.port (λ k client found. fresh.ends.apart k programs.port client found first)
+      (fresh.ends.others programs.port first)))
       (request_came old new kept added events take h) in
-      receiving_keeps old new a.now added events take h a.come
-  serves_keep answers_keep old new (Request_answered h) added kept fresh events take =
-      answers_keep old new h added kept fresh events take
-  serves_keep answers_keep old new (Request_lost h) added kept fresh events take =
-      same_keeps old new kept added events take (Request_lost h) refl (λ port. refl) (λ port transfer r. r)
-      (λ a. record { opens = refl; moves = λ moved. refl }) h.is refl refl (λ from bytes e. absurd (cc)) [] refl tt
-  serves_keep answers_keep old new (Waited h) added kept fresh events take =
-      same_keeps old new kept added events take (Waited h) refl (λ port. refl) (λ port transfer r. r)
-      (λ a. record { opens = refl; moves = λ moved. refl }) h.is refl refl (λ from bytes e. e)
+      same_keeps old new a.now added events take (Request_received h) tt h.is refl
+      (λ from bytes e. subst (λ (p : Endpoint × List ℕ). HasArrived a.now.messages p.0 (requests_at programs) p.1)
+      (same_Some (h.from, h.bytes) (from, bytes) e) a.come) (Received _ h.from h.bytes ∷ []) refl (tt, tt)
+  server_steps_keep old new (Request_answered h) added kept fresh events take = request_keeps kept h added events fresh
+  server_steps_keep old new (Request_lost h) added kept fresh events take =
+      same_keeps old new kept added events take (Request_lost h) tt h.is refl (λ from bytes e. absurd (cc)) [] refl tt
+  server_steps_keep old new (Waited h) added kept fresh events take =
+      same_keeps old new kept added events take (Waited h) tt h.is refl kept.server.pending
       (Quiet (Woke h.ports) ∷ Quiet (Slept h.millis) ∷ Watched h.watch ∷ []) refl (tt, (tt, (tt, tt)))
-  serves_keep answers_keep old new (Store_set h) added kept fresh events take =
-      store_keeps old new kept added events take h
-  serves_keep answers_keep old new (Transfer_closed h) added kept fresh events take =
-      closing_keeps kept h added (silent_by old new kept added events take (Printed _ ∷ [])
-      (ap (λ (s : LoopState S F D). s.events) h.is) (printed_silent _))
-  serves_keep answers_keep old new does added kept fresh events take =
-      same_keeps old new kept added events take does refl (λ port. refl) (λ port transfer r. r)
-      (λ a. record { opens = refl; moves = λ moved. refl }) (state_is does) refl refl (λ from bytes e. e)
-      (_ ∷ []) refl (search rules)
-
-  -- Each step of the server keeps the invariant.
-  -- a request that the server answers
-  pub answers_keep : AnswersKeep
-  answers_keep old new answers added kept fresh events take = request_keeps kept answers added events fresh
-
-  -- each step
-  pub server_steps_keep : ServerStepsKeep programs pad
-  server_steps_keep = serves_keep answers_keep
+  server_steps_keep old new (Store_set h) added kept fresh events take =
+      same_keeps old new kept added events take (Store_set h) tt h.is refl kept.server.pending [] refl tt
+  server_steps_keep old new (Transfer_closed h) added kept fresh events take =
+      closing_keeps kept (fresh_before_server programs old new (Transfer_closed h) added fresh) h added (silent_by
+      (Printed _ ∷ []) added old.state.events (ap (λ (s : LoopState S F D). s.events) h.is) events (printed_silent _))
+  server_steps_keep old new does added kept fresh events take =
+      same_keeps old new kept added events take does tt (state_is does) refl kept.server.pending (_ ∷ []) refl
+      (search rules)

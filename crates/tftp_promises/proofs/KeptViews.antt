@@ -1,22 +1,21 @@
 -- An end stays viewed when another end turns, or when one more opens.
 use Rattle.tftp_promises.proofs.Common.{List, ℕ, ◌≡◌, rules, sym, Endpoint, [], ◌∙◌, ap, SourceMeaning, Some, subst}
 use Rattle.tftp_promises.proofs.Common.{inl, StoreMeaning, inr, ◌∷◌, SinkMeaning, ◌++◌, Programs, EndState, ◌⊎◌}
-use Rattle.tftp_promises.proofs.Common.{Contains, arith, ◌≢◌, slice_get, TransferState, joined, ClientOf, outcome_of}
-use Rattle.tftp_promises.proofs.Common.{OpenEnd, Snapshot, same_Some, IsStranger, open_view, Mode, Spells, Message}
-use Rattle.tftp_promises.proofs.Common.{WirePacket, EndView, Contains-push, not, IsShown, message, WasSentBefore, said}
-use Rattle.tftp_promises.proofs.Common.{is_complete, IsAmong, Contains-append_left, set, Elsewhere, common_steps}
-use Rattle.tftp_promises.proofs.Common.{ClientStage, error_bytes, ◌&&◌, Network, is_some, MayCome, Error, Phase}
-use Rattle.tftp_promises.proofs.Common.{IsError, spells_own, slice_get-set_other, unblamed_still, one_meaning}
-use Rattle.tftp_promises.proofs.Common.{ErrorReply, says_error, slice_get-set_cases, error_packet, ViewsEnd}
-use Rattle.tftp_promises.proofs.Common.{valid_error}
+use Rattle.tftp_promises.proofs.Common.{Contains, arith, ◌≢◌, slice_get, joined, ClientOf, outcome_of, OpenEnd}
+use Rattle.tftp_promises.proofs.Common.{Snapshot, same_Some, IsStranger, open_view, Mode, Spells, Message, WirePacket}
+use Rattle.tftp_promises.proofs.Common.{EndView, Contains-push, not, IsShown, message, WasSentBefore, said, is_complete}
+use Rattle.tftp_promises.proofs.Common.{IsAmong, Contains-append_left, set, Elsewhere, common_steps, ClientStage}
+use Rattle.tftp_promises.proofs.Common.{error_bytes, ◌&&◌, Network, is_some, MayCome, Error, Phase, IsError, spells_own}
+use Rattle.tftp_promises.proofs.Common.{slice_get-set_other, unblamed_still, one_meaning, ErrorReply, says_error}
+use Rattle.tftp_promises.proofs.Common.{slice_get-set_cases, error_packet, ViewsEnd, valid_error, append-nil, client_at}
+use Rattle.tftp_promises.proofs.Common.{Has_asked, Unasked, requests_at, Option}
 use Rattle.tftp_rules.proofs.Indices.{slice_get-push_cases, slice_get-push_old}
 use Rattle.tftp_rules.specs.OpenEnds.{has_failed}
 use Rattle.tftp_wire.specs.Parts.{packet_in}
 use Rattle.tftp_wire.proofs.SpellingLemmas.{spelled_is_found}
 use Rattle.tftp_rules.specs.Machine.{Error as Says_an_error}
 use Rattle.tftp_rules.proofs.Actions.{strays}
-use Rattle.tftp_promises.proofs.Invariant.{IsThere, HasArrived, IsViewed, IsKept, StageKept, TransferKept}
-use Rattle.tftp_promises.proofs.Invariant.{same_transfer}
+use Rattle.tftp_promises.proofs.Invariant.{IsThere, HasArrived, IsViewed, IsKept, StageKept, SendsText, same_transfer}
 use Rattle.tftp_promises.proofs.Places.{strangers_elsewhere}
 
 -- what was said is there still
@@ -44,51 +43,99 @@ pub there_says : (messages : List Message) (from to : Endpoint) (bytes : List �
 there_says messages from to bytes h p s =
     subst (λ (q : WirePacket). Contains messages (message from to (said q))) (one_meaning h.0 p bytes h.1 s) h.2
 
+-- the views and messages after a step at which an end turned, or opened, at most here: each other end stays viewed
+pub record Turns (network : Network) (IsText : Endpoint → Mode → Type 0) (views : List EndView)
+    (messages : List Message) (Here : Endpoint → Type 0) : Type 0 where
+  pub next : List EndView
+  pub said_now : List Message
+  pub shown : IsShown network next (messages ++ said_now)
+  pub others : (z : OpenEnd) → (Here z.address → ⊥) → IsViewed network IsText views messages z →
+      IsViewed network IsText next (messages ++ said_now) z
+  pub only : (view : EndView) → IsAmong next view → IsAmong views view ⊎ Here view.address
+
+-- a view after one end has turned, or one more has opened, is of that end, or as before
+pub among_set : (views : List EndView) (k : ℕ) (f view : EndView) (a : Endpoint) → f.address ≡ a →
+    IsAmong (set views k f) view → IsAmong views view ⊎ (a ≡ view.address)
+among_set views k f view a is among = search (rules, slice_get-set_cases, is)
+
+pub among_push : (views : List EndView) (f view : EndView) (a : Endpoint) → f.address ≡ a →
+    IsAmong (views ++ f ∷ []) view → IsAmong views view ⊎ (a ≡ view.address)
+among_push views f view a is among = search (rules, slice_get-push_cases, is)
+
 module _ {network : Network} {IsText : Endpoint → Mode → Type 0} {views : List EndView} {messages : List Message} where
   -- the view at the endpoint of an end is its own
   pub view_there : {x : OpenEnd} {view : EndView} → IsShown network views messages →
       IsViewed network IsText views messages x → IsAmong views view → view.address ≡ x.address → view ≡ open_view x
   view_there {x} {view} shown h among same = search rules
 
-  module _ (said_now : List Message) where
-    -- another end has turned
-    pub viewed_beside : (k : ℕ) (e f : EndView) (z : OpenEnd) → slice_get views k ≡ Some e → e.address ≢ z.address →
-        IsViewed network IsText views messages z → IsViewed network IsText (set views k f) (messages ++ said_now) z
-    viewed_beside k e f z at apart h = record {
-      kept = h.kept;
-      index = h.index;
-      viewed =
-          slice_get-set_other views k h.index f (λ same. apart (ap (λ (v : EndView). v.address)
-          (same_Some e (open_view z) (sym at ∙ (ap (slice_get views) (sym same) ∙ h.viewed))))) ∙ h.viewed;
-      last_sent = there_still messages said_now h.last_sent;
-      unblamed = unblamed_still network messages said_now z.state h.unblamed;
-    }
+  -- more was said
+  pub viewed_still : (said_now : List Message) {z : OpenEnd} → IsViewed network IsText views messages z →
+      IsViewed network IsText views (messages ++ said_now) z
+  viewed_still said_now {z} h = search (rules, there_still, unblamed_still)
 
-    -- one more has opened
-    pub viewed_before : (f : EndView) {z : OpenEnd} → IsViewed network IsText views messages z →
-        IsViewed network IsText (views ++ f ∷ []) (messages ++ said_now) z
-    viewed_before f {z} h = record {
-      kept = h.kept;
-      index = h.index;
-      viewed = slice_get-push_old views h.index f (open_view z) h.viewed;
-      last_sent = there_still messages said_now h.last_sent;
-      unblamed = unblamed_still network messages said_now z.state h.unblamed;
-    }
+  -- another end has turned, or one more has opened
+  pub viewed_beside : (said_now : List Message) (k : ℕ) (e f : EndView) (z : OpenEnd) → slice_get views k ≡ Some e →
+      e.address ≢ z.address → IsViewed network IsText views messages z →
+      IsViewed network IsText (set views k f) (messages ++ said_now) z
+  viewed_beside said_now k e f z at apart h = record {
+    kept = h.kept;
+    index = h.index;
+    viewed =
+        slice_get-set_other views k h.index f (λ same. apart (ap (λ (v : EndView). v.address)
+        (same_Some e (open_view z) (sym at ∙ (ap (slice_get views) (sym same) ∙ h.viewed))))) ∙ h.viewed;
+    last_sent = there_still messages said_now h.last_sent;
+    unblamed = unblamed_still network messages said_now z.state h.unblamed;
+  }
 
-    -- more was said
-    pub viewed_still : {z : OpenEnd} → IsViewed network IsText views messages z →
-        IsViewed network IsText views (messages ++ said_now) z
-    viewed_still {z} h = search (rules, there_still, unblamed_still)
+  pub viewed_before : (said_now : List Message) (f : EndView) (z : OpenEnd) → IsViewed network IsText views messages z →
+      IsViewed network IsText (views ++ f ∷ []) (messages ++ said_now) z
+  viewed_before said_now f z h = record {
+    kept = h.kept;
+    index = h.index;
+    viewed = slice_get-push_old views h.index f (open_view z) h.viewed;
+    last_sent = there_still messages said_now h.last_sent;
+    unblamed = unblamed_still network messages said_now z.state h.unblamed;
+  }
 
--- a view after one end has turned is that of the end, or as before
-pub among_set : (views : List EndView) (k : ℕ) (f view : EndView) → IsAmong (set views k f) view →
-    IsAmong views view ⊎ (view ≡ f)
-among_set views k f view among = search (rules, slice_get-set_cases)
+  -- none turned or opened
+  abbrev pub rests : {Here : Endpoint → Type 0} (said_now : List Message) →
+      IsShown network views (messages ++ said_now) → Turns network IsText views messages Here
+  rests said_now shown = record {
+    next = views;
+    said_now = said_now;
+    shown = shown;
+    others = λ z apart h. viewed_still said_now h;
+    only = λ view among. inl among;
+  }
 
--- after one more has opened it is that of the end, or as before
-pub among_push : (views : List EndView) (f view : EndView) → IsAmong (views ++ f ∷ []) view →
-    IsAmong views view ⊎ (view ≡ f)
-among_push views f view among = search (rules, slice_get-push_cases)
+  -- and nothing was said
+  abbrev pub quiet : {Here : Endpoint → Type 0} → IsShown network views messages →
+      Turns network IsText views messages Here
+  quiet shown = rests [] (subst (λ (ms : List Message). IsShown network views ms) (sym (append-nil messages)) shown)
+
+  -- the end at this index turned
+  abbrev pub turned : (a : Endpoint) (k : ℕ) (e : EndView) (y : OpenEnd) → slice_get views k ≡ Some e → e.address ≡ a →
+      y.address ≡ a → (said_now : List Message) → IsShown network (set views k (open_view y)) (messages ++ said_now) →
+      Turns network IsText views messages (λ (b : Endpoint). a ≡ b)
+  turned a k e y at was is said_now shown = record {
+    next = set views k (open_view y);
+    said_now = said_now;
+    shown = shown;
+    others = λ z apart h. viewed_beside said_now k e (open_view y) z at (λ same. apart (sym was ∙ same)) h;
+    only = λ view among. among_set views k (open_view y) view a is among;
+  }
+
+  -- one more opened
+  abbrev pub opened : (a : Endpoint) (x : OpenEnd) → x.address ≡ a → (said_now : List Message) →
+      IsShown network (views ++ open_view x ∷ []) (messages ++ said_now) →
+      Turns network IsText views messages (λ (b : Endpoint). a ≡ b)
+  opened a x is said_now shown = record {
+    next = views ++ open_view x ∷ [];
+    said_now = said_now;
+    shown = shown;
+    others = λ z apart h. viewed_before said_now (open_view x) z h;
+    only = λ view among. among_push views (open_view x) view a is among;
+  }
 
 -- What the view of an end has of its state and of its text.
 
@@ -100,29 +147,42 @@ failed_is phase = search rules
 pub views_end : (x : OpenEnd) (a : Endpoint) (e : EndState) → x.address ≡ a → x.state ≡ e → ViewsEnd a e (open_view x)
 views_end x a e at is = search rules
 
+-- the end of a client stays, if it is viewed still
+pub stage_still : {S F D G K : Type 0} {stores : StoreMeaning S D} {sources : SourceMeaning F} {inputs : SourceMeaning G}
+    {outputs : SinkMeaning K} {programs : Programs stores sources inputs outputs} {pad : ℕ} {views next : List EndView}
+    {messages : List Message} (more : List Message) (client : ClientOf programs) (stage : ClientStage G K) →
+    ((z : OpenEnd) → z.address ≡ client_at client →
+    IsViewed (joined programs) (SendsText programs pad) views messages z →
+    IsViewed (joined programs) (SendsText programs pad) next (messages ++ more) z) →
+    StageKept programs pad views messages client stage → StageKept programs pad next (messages ++ more) client stage
+stage_still more client Unasked viewed h = tt
+stage_still {messages = messages} more client (Has_asked s files noted moved) viewed h = record {
+  end = h.end;
+  address = h.address;
+  state = h.state;
+  side = h.side;
+  viewed = viewed h.end h.address h.viewed;
+  asks = there_still messages more h.asks;
+  has = h.has;
+}
+
 -- What a step receives is among the messages: it was sent before, or it is a stranger's or an ERROR, whose message may
 -- be added at any time.
 
 module _ {S F D G K : Type 0} {stores : StoreMeaning S D} {sources : SourceMeaning F} {inputs : SourceMeaning G}
     {outputs : SinkMeaning K} {programs : Programs stores sources inputs outputs} {pad : ℕ}
     {snapshot : Snapshot programs} (kept : IsKept pad snapshot) where
-  abbrev Client : Type 0
-  Client = ClientOf programs
+  -- what a step does to the views and messages
+  abbrev pub TurnsHere : (Endpoint → Type 0) → Type 0
+  TurnsHere Here = Turns (joined programs) (SendsText programs pad) kept.views kept.messages Here
 
-  -- a message more changes no end
-  module _ (more : List Message) where
-    stage_still : (client : Client) (stage : ClientStage G K) →
-        StageKept programs pad kept.views kept.messages client stage →
-        StageKept programs pad kept.views (kept.messages ++ more) client stage
-    stage_still client stage h = search (rules, viewed_still, there_still)
+  -- the datagram that is pending, if there is one, was sent
+  abbrev pub HasCome : Option (Endpoint × List ℕ) → Type 0
+  HasCome pending =
+      (from : Endpoint) (bytes : List ℕ) → pending ≡ Some (from, bytes) →
+      HasArrived kept.messages from (requests_at programs) bytes
 
-    transfer_still : (port : ℕ) (transfer : TransferState F D) (a : Endpoint) →
-        TransferKept pad kept.views kept.messages snapshot port transfer a →
-        TransferKept pad kept.views (kept.messages ++ more) snapshot port transfer a
-    transfer_still port transfer a h =
-        same_transfer h (viewed_still more h.viewed) h.has
-
-  -- one that may be said at any time
+  -- one message more, that may be said at any time, changes no end
   said_kept : (m : Message) → IsShown (joined programs) kept.views (kept.messages ++ m ∷ []) → IsKept pad snapshot
   said_kept m shown =
       record {
@@ -131,18 +191,16 @@ module _ {S F D G K : Type 0} {stores : StoreMeaning S D} {sources : SourceMeani
         shown = shown;
         sent = λ a b bs sent. sent_still programs kept.messages (m ∷ []) (kept.sent a b bs sent);
         server = record {
-          requests = kept.server.requests;
-          config = kept.server.config;
-          pending =
-              λ a bs e. arrived_still kept.messages (m ∷ []) (kept.server.pending a bs e);
+          pending = λ a bs e. arrived_still kept.messages (m ∷ []) (kept.server.pending a bs e);
+          apart = kept.server.apart;
           once = kept.server.once;
-          seats = kept.server.seats;
-          gone = kept.server.gone;
-          gone_once = kept.server.gone_once;
           opened = kept.server.opened;
         };
-        clients = λ k client stage found at. stage_still (m ∷ []) client stage (kept.clients k client stage found at);
-        transfers = λ port transfer a is. transfer_still (m ∷ []) port transfer a (kept.transfers port transfer a is);
+        clients = λ k client stage found at.
+            stage_still (m ∷ []) client stage (λ z here h. viewed_still (m ∷ []) h)
+            (kept.clients k client stage found at);
+        transfers = λ port transfer a is.
+            let h = kept.transfers port transfer a is in same_transfer h (viewed_still (m ∷ []) h.viewed) h.has;
         only = kept.only;
       }
 

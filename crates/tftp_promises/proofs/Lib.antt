@@ -24,7 +24,6 @@ pub mod KeptPorts
 pub mod Unanswered
 pub mod KeptOpenings
 pub mod KeptRequests
-pub mod KeptCloses
 pub mod KeptDoes
 pub mod EachAlone
 pub mod UnblamedPrograms

@@ -1,85 +1,94 @@
--- A step of a transfer over any files, by what the finished run moved.
-use Rattle.tftp_promises.proofs.Common.{List, ℕ, ◌≡◌, sym, Endpoint, refl, ◌∙◌, ap, SourceMeaning, subst, StoreMeaning}
-use Rattle.tftp_promises.proofs.Common.{false, true, None, Bool, Files, length, outcome_of, OpenEnd, is_sender, Turn}
-use Rattle.tftp_promises.proofs.Common.{Moved, Sink, Source, IsPrefixOf, DatagramStep, drafting_sink, end_after}
-use Rattle.tftp_promises.proofs.Common.{datagram_action, GaveSince, Network, EndKept, Holding, known_sink, known_source}
-use Rattle.tftp_promises.proofs.Common.{files_of, Opening, AreSame, files_in, ⊤, step_moves, Drafting, StepIn}
-use Rattle.tftp_promises.proofs.MovedStores.{complete_responds, fate_takes, sink_moves}
-use Rattle.tftp_promises.proofs.MovedSends.{step_gives, source_moves}
-use Rattle.tftp_promises.proofs.Invariant.{GaveSo, TookBy, TookSo}
-use Rattle.tftp_promises.proofs.KeptDoes.{source_is, sink_is}
-use Rattle.tftp_promises.proofs.Texts.{pad_length, pad_to}
+-- What is known of the file of an end after a step of the end over any files, by what the finished run moved; and where
+-- it makes none.
+use Rattle.tftp_promises.proofs.Common.{List, ℕ, ◌≡◌, rules, Endpoint, refl, SourceMeaning, false, true, None, Files}
+use Rattle.tftp_promises.proofs.Common.{outcome_of, OpenEnd, is_sender, Turn, Moved, Sink, Source, IsPrefixOf}
+use Rattle.tftp_promises.proofs.Common.{DatagramStep, end_after, datagram_action, GaveSince, Network, EndKept, Holding}
+use Rattle.tftp_promises.proofs.Common.{known_sink, known_source, files_of, AreSame, step_moves, SinkMeaning}
+use Rattle.tftp_promises.proofs.Common.{after_turn, holding_of}
+use Rattle.tftp_promises.proofs.MovedStores.{Fate, sink_moves}
+use Rattle.tftp_promises.proofs.MovedSends.{source_moves}
+use Rattle.tftp_promises.proofs.Invariant.{FileSo, GaveSo, TookSo}
+use Rattle.tftp_promises.proofs.Texts.{pad_to}
 
-module _ {S F D : Type 0} (stores : StoreMeaning S D) (sources : SourceMeaning F) (IsFirst : Opening F → Type 0)
-    (HasBegun : D → Type 0) (HasBeen : S → Type 0) (path : List ℕ) (replace : Bool) where
-  -- what a source has given since it was opened
-  pub record GivenSo (source : F) (x : OpenEnd) (moved : Moved) : Type 0 where
-    pub opening : Opening F
-    pub first : IsFirst opening
-    pub long : x.state.role.length ≡ opening.length
-    pub since : GaveSince sources opening.source x.state moved.bytes source
+module _ {S K : Type 0} (Given : S → OpenEnd → Moved → Type 0) (Taken : K → OpenEnd → Moved → Type 0) (x : OpenEnd)
+    (moved : Moved) where
+  -- with other files, after a change that leaves what is known
+  pub file_on : {P : S → S → Type 0} {Q : K → K → Type 0} →
+      ((s s' : S) → P s s' → Given s x moved → Given s' x moved) →
+      ((k k' : K) → Q k k' → Taken k x moved → Taken k' x moved) → (files files' : Files S K) →
+      AreSame P Q files files' → FileSo Given Taken files x moved → FileSo Given Taken files' x moved
+  file_on gives takes (Source s) (Source s') same h = (h.0, h.1, gives s s' same h.2)
+  file_on gives takes (Sink k) (Sink k') same h = (h.0, h.1, takes k k' same h.2)
+  file_on gives takes (Source s) (Sink k) same h = absurd same
+  file_on gives takes (Sink k) (Source s) same h = absurd same
 
-  -- what a draft has taken since it was begun
-  pub record TakenSo (draft : D) (x : OpenEnd) (moved : Moved) : Type 0 where
-    pub first : D
-    pub began : HasBegun first
-    pub since : TookBy stores HasBeen path replace first x moved.bytes draft
+-- after a turn that leaves its file
+module _ (x : OpenEnd) (turn : Turn)
+    (still : outcome_of turn.position.phase ≡ None → outcome_of x.state.position.phase ≡ None) where
+  -- a receiver holds what it held
+  pub held_same : is_sender x.state.role.side ≡ false → holding_of (end_after x turn (files_of x)) ≡ holding_of x
+  held_same receiver = rw (receiver) refl
 
-  -- what has moved at the end of a transfer with these files
-  abbrev pub GotSo : Files F D → OpenEnd → Moved → Type 0
-  GotSo (Source source) x moved =
-      (is_sender x.state.role.side ≡ true) × GaveSo x moved × GivenSo source x moved
-  GotSo (Sink draft) x moved = (is_sender x.state.role.side ≡ false) × TookSo x moved × TakenSo draft x moved
+  -- what a sender gave, and what a receiver stored
+  gave_same : is_sender x.state.role.side ≡ true → (moved : Moved) → GaveSo x moved →
+      GaveSo (end_after x turn (files_of x)) moved
+  gave_same sender moved h = search rules
 
-  -- a step over what moves
-  pub record MovesOver (x : OpenEnd) (from : Endpoint) (bytes : List ℕ) (turn : Turn) (files' : Files F D)
-      (moved : Moved) : Type 0 where
-    pub content : Files (List ℕ) Holding
-    pub steps : DatagramStep known_source known_sink from bytes x.state (files_of x) turn content
-    pub got : GotSo files' (end_after x turn content) moved
+  took_same : is_sender x.state.role.side ≡ false → (moved : Moved) → TookSo x moved →
+      TookSo (end_after x turn (files_of x)) moved
+  took_same receiver moved h = search rules
 
-  module _ (x : OpenEnd) (network : Network) (kept : EndKept network x)
-      (still : outcome_of x.state.position.phase ≡ None) (from : Endpoint) (bytes : List ℕ) (turn : Turn)
-      (store store' : S) (been : HasBeen store') (path' : List ℕ) (pad : ℕ) (all : List ℕ)
-      (text : is_sender x.state.role.side ≡ true → x.text ≡ pad_to pad x.state.role.length all) (moved : Moved) where
-    pub files_move : (files files' : Files F D) → AreSame (λ (a b : F). ⊤) (λ (a b : D). ⊤) files files' →
-        GotSo files x moved → (step : StepIn stores sources from bytes x.state (files_in store path replace files) turn
-        (files_in store' path' replace files')) →
-        IsPrefixOf (step_moves sources (drafting_sink stores) from bytes x.state (files_in store path replace files)
-        turn (files_in store' path' replace files') step moved).bytes all →
-        MovesOver x from bytes turn files' (step_moves sources (drafting_sink stores) from bytes x.state
-        (files_in store path replace files) turn (files_in store' path' replace files') step moved)
-    files_move (Source source) (Source source') kind h step told =
-        let m =
-        source_moves sources (drafting_sink stores) x from source source' turn moved h.1 still pad all
-        (text h.0) network kept h.0 bytes step told in
-        let measured : length x.text ≡ x.state.role.length =
-        ap (λ (t : List ℕ). length t) (text h.0) ∙ pad_length pad x.state.role.length all in
-        let given =
-        step_gives sources (drafting_sink stores) x from h.2.opening.source source source' turn moved h.1 h.2.since still
-        measured network kept h.0 bytes step in
-        record {
-          content = Source m.left;
-          steps =
-              subst (λ (f : Files (List ℕ) Holding). DatagramStep known_source known_sink from bytes x.state f turn
-              (Source m.left)) (source_is x h.0) m.steps;
-          got = (h.0, m.gave, record { opening = h.2.opening; first = h.2.first; long = h.2.long; since = given });
-        }
-    files_move (Sink draft) (Sink draft') kind h step told =
-        let d : Drafting S D = record { store = store; draft = draft; path = path; replace = replace } in
-        let d' : Drafting S D = record { store = store'; draft = draft'; path = path'; replace = replace } in
-        let m = sink_moves sources (drafting_sink stores) from turn x moved h.1 d d' bytes step in
-        let now = step_moves sources (drafting_sink stores) from bytes x.state (Sink d) turn (Sink d') step moved in
-        let since =
-        fate_takes x turn d d' m.after moved.bytes now.bytes refl refl been still h.2.since
-        (datagram_action x.state from bytes step.decoded)
-        (λ c. complete_responds x.state from bytes step.decoded (sym (kept.committed h.0) ∙ c)) m.fate in
-        record {
-          content = Sink m.after;
-          steps =
-              subst (λ (f : Files (List ℕ) Holding). DatagramStep known_source known_sink from bytes x.state f turn
-              (Sink m.after)) (sink_is x h.0) m.steps;
-          got = (h.0, m.took, record { first = h.2.first; began = h.2.began; since = since });
-        }
-    files_move (Source source) (Sink draft') kind h step told = absurd kind
-    files_move (Sink draft) (Source source') kind h step told = absurd kind
+  pub file_turned : {S K : Type 0} (Given : S → OpenEnd → Moved → Type 0) (Taken : K → OpenEnd → Moved → Type 0)
+      (files : Files S K) (moved : Moved) →
+      ((s : S) → Given s x moved → Given s (end_after x turn (files_of x)) moved) →
+      ((k : K) → is_sender x.state.role.side ≡ false → Taken k x moved →
+      Taken k (end_after x turn (files_of x)) moved) → FileSo Given Taken files x moved →
+      FileSo Given Taken files (end_after x turn (files_of x)) moved
+  file_turned Given Taken (Source s) moved gives takes h = (h.0, gave_same h.0 moved h.1, gives s h.2)
+  file_turned Given Taken (Sink k) moved gives takes h = (h.0, took_same h.0 moved h.1, takes k h.0 h.2)
+
+-- a step over what moves, and what is known of the file after it
+pub record MovesOver {S K : Type 0} (Given : S → OpenEnd → Moved → Type 0) (Taken : K → OpenEnd → Moved → Type 0)
+    (x : OpenEnd) (from : Endpoint) (bytes : List ℕ) (turn : Turn) (files' : Files S K) (now : Moved) : Type 0 where
+  pub content : Files (List ℕ) Holding
+  pub steps : DatagramStep known_source known_sink from bytes x.state (files_of x) turn content
+  pub file : FileSo Given Taken files' (end_after x turn content) now
+
+module _ {S K L : Type 0} (sources : SourceMeaning S) (sinks : SinkMeaning K) (Given : S → OpenEnd → Moved → Type 0)
+    (Taken : L → OpenEnd → Moved → Type 0) (x : OpenEnd) (network : Network) (kept : EndKept network x)
+    (still : outcome_of x.state.position.phase ≡ None) (from : Endpoint) (bytes : List ℕ) (turn : Turn)
+    (moved : Moved) where
+  -- of a sender
+  pub source_over : (s s' : S) (pad : ℕ) (all : List ℕ) →
+      (is_sender x.state.role.side ≡ true → x.text ≡ pad_to pad x.state.role.length all) →
+      (step : DatagramStep sources sinks from bytes x.state (Source s) turn (Source s')) →
+      IsPrefixOf (step_moves sources sinks from bytes x.state (Source s) turn (Source s') step moved).bytes all →
+      ((content : Files (List ℕ) Holding) (now : Moved) → ((first : S) →
+      GaveSince sources first x.state moved.bytes s →
+      GaveSince sources first (after_turn x.state turn) now.bytes s') → Given s x moved →
+      Given s' (end_after x turn content) now) → FileSo Given Taken (Source s) x moved →
+      MovesOver Given Taken x from bytes turn (Source s')
+      (step_moves sources sinks from bytes x.state (Source s) turn (Source s') step moved)
+  source_over s s' pad all text step told gives h =
+      let m =
+      source_moves sources sinks x from s s' turn moved h.1 still pad all (text h.0) network kept h.0 bytes step told in
+      record {
+        content = Source m.left;
+        steps = rw (h.0) m.steps;
+        file = (h.0, m.gave, gives (Source m.left) _ m.given h.2);
+      }
+
+  -- of a receiver
+  pub sink_over : (k k' : K) (l l' : L) (step : DatagramStep sources sinks from bytes x.state (Sink k) turn (Sink k')) →
+      ((after : Holding) (now : Moved) → is_sender x.state.role.side ≡ false →
+      Fate sinks turn x.committed k k' (datagram_action x.state from bytes step.decoded) moved.bytes now.bytes
+      after.committed → Taken l x moved → Taken l' (end_after x turn (Sink after)) now) →
+      FileSo Given Taken (Sink l) x moved → MovesOver Given Taken x from bytes turn (Sink l')
+      (step_moves sources sinks from bytes x.state (Sink k) turn (Sink k') step moved)
+  sink_over k k' l l' step takes h =
+      let m = sink_moves sources sinks from turn x moved h.1 k k' bytes step in
+      record {
+        content = Sink m.after;
+        steps = rw (h.0) m.steps;
+        file = (h.0, m.took, takes m.after _ h.0 m.fate h.2);
+      }

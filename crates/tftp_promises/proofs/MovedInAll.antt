@@ -2,83 +2,84 @@
 -- what the source of a client has given.
 use Rattle.tftp_promises.proofs.Common.{List, ℕ, ◌≡◌, rules, sym, Endpoint, refl, ◌∙◌, ap, SourceMeaning, Some, subst}
 use Rattle.tftp_promises.proofs.Common.{StoreMeaning, SinkMeaning, false, true, Programs, EndState, Files, true≢false}
-use Rattle.tftp_promises.proofs.Common.{slice_get, TransferState, ClientOf, OpenEnd, is_sender, Mode, Sink, Source}
-use Rattle.tftp_promises.proofs.Common.{moved_in, all_of, moved_at, is_complete, opened_at, GaveSince, HasOpened}
-use Rattle.tftp_promises.proofs.Common.{StoreOpened}
+use Rattle.tftp_promises.proofs.Common.{slice_get, TransferState, ClientOf, is_sender, Sink, Source, moved_in, all_of}
+use Rattle.tftp_promises.proofs.Common.{moved_at, opened_at, GaveSince, HasOpened, StoreOpened, StoreBegan, HadStore}
+use Rattle.tftp_promises.specs.Drafts.{TookSince}
 use Rattle.tftp_promises.specs.AnyFiles.{WasGivenBy, WasGiven, WasOpened, WasTaken}
 use Rattle.tftp_promises.proofs.ClientTraces.{run_role}
-use Rattle.tftp_promises.proofs.Invariant.{ClientKept, HasFile, HasStored, IsGiven, IsKept, IsOpened, client_kept}
-use Rattle.tftp_promises.proofs.Invariant.{stored_opened}
+use Rattle.tftp_promises.proofs.Invariant.{ClientKept, FileSo, HasFile, IsGiven, IsKept, IsTaken, TransferKept}
+use Rattle.tftp_promises.proofs.Invariant.{client_kept}
 
 module _ {S F D G K : Type 0} {stores : StoreMeaning S D} {sources : SourceMeaning F} {inputs : SourceMeaning G}
     {outputs : SinkMeaning K} (programs : Programs stores sources inputs outputs)
     (kept : IsKept 0 (all_of programs)) where
-  -- what the server opened at a place
-  opened_so : (transfer : TransferState F D) (a : Endpoint) (x : OpenEnd) → x.address ≡ a → x.state ≡ transfer.end →
-      x.path ≡ transfer.path → IsOpened programs programs.server.run x → WasOpened programs transfer a
-  opened_so transfer a x at state path h = record {
-    opening = h.opening;
-    opened = ap (λ (e : Endpoint). opened_at programs e programs.server.run) (sym at) ∙ h.opened;
-    path = h.path ∙ path;
-    role = h.role ∙ ap (λ (e : EndState). e.role) state;
-  }
+  module _ (port : ℕ) (transfer : TransferState F D) (a : Endpoint) (there : HasOpened programs port transfer a) where
+    abbrev h : TransferKept 0 kept.views kept.messages (all_of programs) port transfer a
+    h = kept.transfers port transfer a there
 
-  pub was_opened : (port : ℕ) (transfer : TransferState F D) (a : Endpoint) → HasOpened programs port transfer a →
-      WasOpened programs transfer a
-  was_opened port transfer a opened =
-      let h = kept.transfers port transfer a opened in
-      opened_so transfer a h.end h.address h.state h.path (stored_opened 0 (all_of programs) h.end transfer.files
-      h.has)
+    -- what the server opened there
+    pub was_opened : WasOpened programs transfer a
+    was_opened = record {
+      opening = h.has.opened.opening;
+      opened = ap (λ (e : Endpoint). opened_at programs e programs.server.run) (sym h.address) ∙ h.has.opened.opened;
+      path = h.has.opened.path ∙ h.path;
+      role = h.has.opened.role ∙ ap (λ (e : EndState). e.role) h.state;
+    }
 
-  -- what it has given since the store opened it
-  given_so : (transfer : TransferState F D) (a : Endpoint) (x : OpenEnd) → x.address ≡ a → x.state ≡ transfer.end →
-      x.path ≡ transfer.path → x.request ≡ transfer.request → (source : F) → transfer.files ≡ Source source →
-      IsGiven programs programs.server.run x source → WasGiven programs transfer a
-  given_so transfer a x at state path request source is h = record {
-    opening = h.opening;
-    first =
-        subst (λ (m : Mode). StoreOpened programs.server.run transfer.path transfer.request m h.opening)
-        (ap (λ (e : EndState). e.role.mode) state)
-        (subst (λ (r : List ℕ). StoreOpened programs.server.run transfer.path r x.state.role.mode h.opening) request
-        (subst (λ (p : List ℕ). StoreOpened programs.server.run p x.request x.state.role.mode h.opening) path h.first));
-    long = ap (λ (e : EndState). e.role.length) (sym state) ∙ h.long;
-    source = source;
-    is_source = is;
-    since =
-        subst (λ (b : Endpoint). GaveSince sources h.opening.source transfer.end
-        (moved_at programs b programs.server.run).bytes source) at
-        (subst (λ (e : EndState). GaveSince sources h.opening.source e
-        (moved_at programs x.address programs.server.run).bytes source) state h.since);
-  }
+    -- what holds of its end, which is the transfer's
+    of_end : (P : List ℕ → List ℕ → EndState → Endpoint → Type 0) →
+        P h.end.path h.end.request h.end.state h.end.address → P transfer.path transfer.request transfer.end a
+    of_end P holds =
+        subst (λ (b : Endpoint). P transfer.path transfer.request transfer.end b) h.address
+        (subst (λ (e : EndState). P transfer.path transfer.request e h.end.address) h.state
+        (subst (λ (r : List ℕ). P transfer.path r h.end.state h.end.address) h.request
+        (subst (λ (p : List ℕ). P p h.end.request h.end.state h.end.address) h.path holds)))
 
-  given_of : (transfer : TransferState F D) (a : Endpoint) (x : OpenEnd) → x.address ≡ a → x.state ≡ transfer.end →
-      x.path ≡ transfer.path → x.request ≡ transfer.request → is_sender transfer.end.role.side ≡ true →
-      (files : Files F D) → transfer.files ≡ files → HasStored 0 (all_of programs) x files →
-      WasGiven programs transfer a
-  given_of transfer a x at state path request sends (Source source) is has =
-      given_so transfer a x at state path request source is has.given
-  given_of transfer a x at state path request sends (Sink draft) is has =
-      absurd (true≢false (sym sends ∙ (ap (λ (e : EndState). is_sender e.role.side) (sym state) ∙ has.receiver)))
+    -- what its file has given or taken since
+    abbrev HasMoved : Files F D → Type 0
+    HasMoved files =
+        FileSo (IsGiven programs programs.server.run) (IsTaken programs programs.server.run) files h.end
+        (moved_at programs h.end.address programs.server.run)
 
-  pub was_given : (port : ℕ) (transfer : TransferState F D) (a : Endpoint) → HasOpened programs port transfer a →
-      is_sender transfer.end.role.side ≡ true → WasGiven programs transfer a
-  was_given port transfer a opened sends =
-      let h = kept.transfers port transfer a opened in
-      given_of transfer a h.end h.address h.state h.path h.request sends transfer.files refl h.has
+    given_of : is_sender transfer.end.role.side ≡ true → (files : Files F D) → transfer.files ≡ files →
+        HasMoved files → WasGiven programs transfer a
+    given_of sends (Source source) is f = record {
+      opening = f.2.opening;
+      first = of_end (λ p r e b. StoreOpened programs.server.run p r e.role.mode f.2.opening) f.2.first;
+      long = ap (λ (e : EndState). e.role.length) (sym h.state) ∙ f.2.long;
+      source = source;
+      is_source = is;
+      since = of_end (λ p r e b. GaveSince sources f.2.opening.source e (moved_at programs b programs.server.run).bytes
+          source) f.2.since;
+    }
+    given_of sends (Sink draft) is f =
+        absurd (true≢false (sym sends ∙ (ap (λ (e : EndState). is_sender e.role.side) (sym h.state) ∙ f.0)))
 
-  taken_of : (transfer : TransferState F D) (a : Endpoint) (x : OpenEnd) → x.address ≡ a → x.state ≡ transfer.end →
-      x.path ≡ transfer.path → x.request ≡ transfer.request →
-      (is_sender x.state.role.side ≡ false → x.committed ≡ is_complete x.state.position.phase) →
-      is_sender transfer.end.role.side ≡ false → (files : Files F D) → transfer.files ≡ files →
-      HasStored 0 (all_of programs) x files → WasTaken programs transfer a
-  taken_of transfer a x at state path request complete receives files is has = search rules
+    pub was_given : is_sender transfer.end.role.side ≡ true → WasGiven programs transfer a
+    was_given sends = given_of sends transfer.files refl h.has.file
 
-  pub was_taken : (port : ℕ) (transfer : TransferState F D) (a : Endpoint) → HasOpened programs port transfer a →
-      is_sender transfer.end.role.side ≡ false → WasTaken programs transfer a
-  was_taken port transfer a opened receives =
-      let h = kept.transfers port transfer a opened in
-      taken_of transfer a h.end h.address h.state h.path h.request h.viewed.kept.committed receives transfer.files refl
-      h.has
+    taken_of : is_sender transfer.end.role.side ≡ false → (files : Files F D) → transfer.files ≡ files →
+        HasMoved files → WasTaken programs transfer a
+    taken_of receives (Sink draft) is f =
+        let complete = h.viewed.kept.committed f.0 in
+        record {
+          began_with = f.2.first;
+          began = of_end (λ p r e b. StoreBegan programs.server.run p r e.role.mode
+              programs.server.start.server.config.overwrite f.2.first) f.2.began;
+          draft = draft;
+          is_draft = is;
+          since = of_end (λ p r e b. TookSince stores (HadStore programs.server.run) p
+              programs.server.start.server.config.overwrite f.2.first e
+              (moved_at programs b programs.server.run).bytes draft) (record {
+                going = λ o n. f.2.since.going o (complete ∙ n);
+                done = λ c. f.2.since.done (complete ∙ c);
+              });
+        }
+    taken_of receives (Source source) is f =
+        absurd (true≢false (sym f.0 ∙ (ap (λ (e : EndState). is_sender e.role.side) h.state ∙ receives)))
+
+    pub was_taken : is_sender transfer.end.role.side ≡ false → WasTaken programs transfer a
+    was_taken receives = taken_of receives transfer.files refl h.has.file
 
   -- what the source of a client has given
   module _ (k : ℕ) (client : ClientOf programs) (found : slice_get programs.clients k ≡ Some client)

@@ -17,8 +17,6 @@ use Rattle.tftp_file.specs.Source.{Fills}
 use Rattle.tftp_file.specs.declared.fault.FileFault.{FileFault}
 use Rattle.tftp_ends.specs.Step.{Sends}
 use Rattle.tftp_rules.specs.EndKept.{IsUnderWay}
-use Rattle.tftp_negotiate.specs.declared.known.Kind.TheVariants as kinds
-use Rattle.tftp_negotiate.specs.declared.refusal.Refusal.TheVariants as refusals
 use Rattle.tftp_file.specs.declared.fault.FileFault.TheVariants as file_faults
 use Rattle.tftp_ends.specs.declared.outcome.Outcome.TheVariants as outcomes
 use Rattle.tftp_promises.proofs.Invariant.{GaveSo}
@@ -88,11 +86,40 @@ no_memory n e = cc
 no_memory_read : ◌≢◌ {A = Result ℕ FileFault} (Err file_faults.Read) (Err file_faults.Memory)
 no_memory_read e = cc
 
--- a step of a sender over the text that is left, and what was given with it
-pub record SourceMoves (x : OpenEnd) (turn : Turn) (moved : Moved) (P : List ℕ → Type 0) : Type 0 where
+-- What a source has given since it was opened, after a step of its end, or after its own work.
+
+-- a fill of no bytes gives none
+at_most : (before after : Option (List ℕ)) (wants : ℕ) (piece : List ℕ) (answer : Result ℕ FileFault) →
+    Fills before after wants [] piece answer → length piece ≤ wants
+at_most before after wants piece answer f = search rules
+
+module _ {S : Type 0} {sources : SourceMeaning S} where
+  -- all that it gave was sent
+  pub gave_first : {first last : S} {e : EndState} {bytes : List ℕ} → GivesInTurn sources first bytes last →
+      GaveSince sources first e bytes last
+  gave_first {first = first} {last = last} {bytes = bytes} h = search rules
+
+  -- a call that gave no bytes
+  pub gave_none : {first before after : S} {e : EndState} {bytes : List ℕ} → GaveSince sources first e bytes before →
+      sources.gives before [] after → GaveSince sources first e bytes after
+  gave_none {first = first} {after = after} {bytes = bytes} h none =
+      search (subst (λ (t : List ℕ). GivesInTurn sources first t after) (append-nil (bytes ++ h.rest))
+      (Gave_more h.given none))
+
+  -- at another position, which is open only if the end was
+  pub gave_still : {first last : S} {e e' : EndState} {bytes : List ℕ} → e'.role ≡ e.role →
+      (outcome_of e'.position.phase ≡ None → outcome_of e.position.phase ≡ None) →
+      GaveSince sources first e bytes last → GaveSince sources first e' bytes last
+  gave_still role still h = search rules
+
+-- a step of a sender over the text that is left, and what was given with it, also since the source was first so
+pub record SourceMoves {S : Type 0} (sources : SourceMeaning S) (x : OpenEnd) (s s' : S) (turn : Turn)
+    (moved now : Moved) (P : List ℕ → Type 0) : Type 0 where
   pub left : List ℕ
   pub steps : P left
-  pub gave : GaveSo (end_after x turn (Source left)) moved
+  pub gave : GaveSo (end_after x turn (Source left)) now
+  pub given : (first : S) → GaveSince sources first x.state moved.bytes s →
+      GaveSince sources first (after_turn x.state turn) now.bytes s'
 
 module _ {S K : Type 0} (sources : SourceMeaning S) (sinks : SinkMeaning K) (x : OpenEnd) (from : Endpoint) (s s' : S)
     (turn : Turn) (moved : Moved) (gave : GaveSo x moved)
@@ -101,10 +128,20 @@ module _ {S K : Type 0} (sources : SourceMeaning S) (sinks : SinkMeaning K) (x :
   abbrev want : Terms → ℕ → ℕ
   want terms number = block_length x.state.role.length terms.size number
 
+  abbrev Moves : Moved → (List ℕ → Type 0) → Type 0
+  Moves now P = SourceMoves sources x s s' turn moved now P
+
+  measured : length x.text ≡ x.state.role.length
+  measured = ap (λ (t : List ℕ). length t) text ∙ pad_length pad x.state.role.length all
+
+  -- all was sent before
+  before : {first : S} → GaveSince sources first x.state moved.bytes s → GivesInTurn sources first moved.bytes s
+  before since = search rules
+
   -- the whole block was read
   whole : (terms : Terms) (number : ℕ) (h : Sends sources terms number from x.state s turn s') →
       want terms number ≤ length x.left → result_count_is (want terms number) h.answer ≡ true →
-      IsPrefixOf (moved.bytes ++ h.piece) all → SourceMoves x turn (with_more h.piece moved.committed moved)
+      IsPrefixOf (moved.bytes ++ h.piece) all → Moves (with_more h.piece moved.committed moved)
       (Sends known_source terms number from x.state x.left turn)
   whole terms number h within count told =
       let n = want terms number in
@@ -114,13 +151,12 @@ module _ {S K : Type 0} (sources : SourceMeaning S) (sinks : SinkMeaning K) (x :
       h.reads.fills in
       let long : length h.piece ≡ n = piece_length (sources.left s) (sources.left s') n h.piece fills in
       let all_left : moved.bytes ++ x.left ≡ x.text = gave.left still in
-      let measured : length x.text ≡ x.state.role.length =
-      ap (λ (t : List ℕ). length t) text ∙ pad_length pad x.state.role.length all in
+      let long_text = measured in
       let a = length-append moved.bytes h.piece in
       let b = length-append moved.bytes x.left in
       let c = ap (λ (t : List ℕ). length t) all_left in
       let short : length (moved.bytes ++ h.piece) ≤ x.state.role.length =
-      omega (arith, a, b, c, long, within, measured) in
+      omega (arith, a, b, c, long, within, long_text) in
       let begins : IsPrefixOf (moved.bytes ++ h.piece) x.text =
       subst (λ (t : List ℕ). IsPrefixOf (moved.bytes ++ h.piece) t) (sym text)
       (begins_padded pad x.state.role.length (moved.bytes ++ h.piece) all told short) in
@@ -153,46 +189,68 @@ module _ {S K : Type 0} (sources : SourceMeaning S) (sinks : SinkMeaning K) (x :
               λ o. append_assoc moved.bytes h.piece (drop n x.left)
               ∙ (ap (λ (t : List ℕ). moved.bytes ++ t) rest ∙ all_left);
         };
+        given = λ first since. gave_first (Gave_more (before since) h.gives);
       }
+
+  -- a block that was not read has no bytes, if all was sent
+  no_piece : (terms : Terms) (number : ℕ) (h : Sends sources terms number from x.state s turn s') →
+      want terms number ≤ length x.left → length (moved.bytes ++ []) ≡ x.state.role.length → h.piece ≡ []
+  no_piece terms number h within all_sent = search (rules, at_most, length-append, nil_from_length, measured)
 
   -- it was not
   failed : (terms : Terms) (number : ℕ) (h : Sends sources terms number from x.state s turn s') →
-      result_count_is (want terms number) h.answer ≡ false →
-      SourceMoves x turn (with_more [] moved.committed moved) (Sends known_source terms number from x.state x.left turn)
-  failed terms number h count = record {
-    left = x.left;
-    steps = record {
-      answer = Err file_faults.Read;
-      piece = [];
-      reads = record { fills = refl; read = λ q. tt; fails = λ q. absurd q; memory = no_memory_read };
-      gives = tt;
-      answers =
-          h.answers
-          ∙ ap (λ (b : Bool). if b then sent_turn (Sending terms number) from (data_bytes number h.piece) x.state else
-          refused_turn terms FileChanged outcomes.SourceFault from x.state) count;
-    };
-    gave = record {
-      prefix = subst (λ (t : List ℕ). IsPrefixOf t x.text) (sym (append-nil moved.bytes)) gave.prefix;
-      left = λ o. ap (λ (t : List ℕ). t ++ x.left) (append-nil moved.bytes) ∙ gave.left still;
-    };
-  }
+      want terms number ≤ length x.left → result_count_is (want terms number) h.answer ≡ false →
+      Moves (with_more [] moved.committed moved) (Sends known_source terms number from x.state x.left turn)
+  failed terms number h within count =
+      let answers : turn ≡ refused_turn terms FileChanged outcomes.SourceFault from x.state =
+      h.answers
+      ∙ ap (λ (b : Bool). if b then sent_turn (Sending terms number) from (data_bytes number h.piece) x.state else
+      refused_turn terms FileChanged outcomes.SourceFault from x.state) count in
+      record {
+        left = x.left;
+        steps = record {
+          answer = Err file_faults.Read;
+          piece = [];
+          reads = record { fills = refl; read = λ q. tt; fails = λ q. absurd q; memory = no_memory_read };
+          gives = tt;
+          answers = answers;
+        };
+        gave = record {
+          prefix = subst (λ (t : List ℕ). IsPrefixOf t x.text) (sym (append-nil moved.bytes)) gave.prefix;
+          left = λ o. ap (λ (t : List ℕ). t ++ x.left) (append-nil moved.bytes) ∙ gave.left still;
+        };
+        given = λ first since. record {
+          rest = h.piece;
+          given = rw (← ap (λ (t : List ℕ). t ++ h.piece) (sym (append-nil moved.bytes)))
+              (Gave_more (before since) h.gives);
+          going = λ o. absurd (let f : Some outcomes.SourceFault ≡ None =
+              ap (λ (t : Turn). outcome_of t.position.phase) (sym answers) ∙ o in cc);
+          whole = λ all_sent. no_piece terms number h within all_sent;
+        };
+      }
 
   either : (terms : Terms) (number : ℕ) (h : Sends sources terms number from x.state s turn s') →
       want terms number ≤ length x.left → (b : Bool) → result_count_is (want terms number) h.answer ≡ b →
       IsPrefixOf (moved.bytes ++ (if b then h.piece else [])) all →
-      SourceMoves x turn (with_more (if b then h.piece else []) moved.committed moved)
+      Moves (with_more (if b then h.piece else []) moved.committed moved)
       (Sends known_source terms number from x.state x.left turn)
-  either terms number h within b count told = search (rules, whole, failed)
+  either terms number h within true count told = whole terms number h within count told
+  either terms number h within false count told = failed terms number h within count
+
+  same_source : (a b : S) → ◌≡◌ {A = Files S K} (Source a) (Source b) → a ≡ b
+  same_source a b e = cc
 
   source_acts : (action : Action) → ReadsWithin x.state.role.length x.left action →
       (bytes : List ℕ) (acts : Acts sources sinks action from bytes x.state (Source s) turn (Source s')) →
       IsPrefixOf (acts_move sources sinks action from bytes x.state (Source s) turn (Source s') acts moved).bytes all →
-      SourceMoves x turn (acts_move sources sinks action from bytes x.state (Source s) turn (Source s') acts moved)
+      Moves (acts_move sources sinks action from bytes x.state (Source s) turn (Source s') acts moved)
       (λ (left : List ℕ). Acts known_source known_sink action from bytes x.state (Source x.left) turn (Source left))
   source_acts (Respond response) within bytes acts told = record {
     left = x.left;
     steps = (acts.0, refl);
     gave = record { prefix = gave.prefix; left = λ o. gave.left still };
+    given = λ first since.
+        gave_first (rw (same_source s' s acts.1) (before since));
   }
   source_acts (Send terms number) within bytes acts told =
       either terms number acts within (result_count_is (want terms number) acts.answer) refl told
@@ -202,7 +260,7 @@ module _ {S K : Type 0} (sources : SourceMeaning S) (sinks : SinkMeaning K) (x :
   pub source_moves : (network : Network) → EndKept network x → is_sender x.state.role.side ≡ true →
       (bytes : List ℕ) (step : DatagramStep sources sinks from bytes x.state (Source s) turn (Source s')) →
       IsPrefixOf (step_moves sources sinks from bytes x.state (Source s) turn (Source s') step moved).bytes all →
-      SourceMoves x turn (step_moves sources sinks from bytes x.state (Source s) turn (Source s') step moved)
+      Moves (step_moves sources sinks from bytes x.state (Source s) turn (Source s') step moved)
       (λ (left : List ℕ). DatagramStep known_source known_sink from bytes x.state (Source x.left) turn (Source left))
   source_moves network kept sender bytes step told =
       let h =
@@ -217,96 +275,5 @@ module _ {S K : Type 0} (sources : SourceMeaning S) (sinks : SinkMeaning K) (x :
           again = step.again;
         };
         gave = h.gave;
+        given = h.given;
       }
-
--- What a source has given since it was opened, after a step of its end, or after its own work.
-
--- a fill of no bytes gives none
-at_most : (before after : Option (List ℕ)) (wants : ℕ) (piece : List ℕ) (answer : Result ℕ FileFault) →
-    Fills before after wants [] piece answer → length piece ≤ wants
-at_most before after wants piece answer f = search rules
-
-module _ {S : Type 0} {sources : SourceMeaning S} where
-  -- all that it gave was sent
-  pub gave_first : {first last : S} {e : EndState} {bytes : List ℕ} → GivesInTurn sources first bytes last →
-      GaveSince sources first e bytes last
-  gave_first {first = first} {last = last} {bytes = bytes} h = search rules
-
-  -- a call that gave no bytes
-  pub gave_none : {first before after : S} {e : EndState} {bytes : List ℕ} → GaveSince sources first e bytes before →
-      sources.gives before [] after → GaveSince sources first e bytes after
-  gave_none {first = first} {after = after} {bytes = bytes} h none =
-      search (subst (λ (t : List ℕ). GivesInTurn sources first t after) (append-nil (bytes ++ h.rest))
-      (Gave_more h.given none))
-
-  -- at another position, which is open only if the end was
-  pub gave_still : {first last : S} {e e' : EndState} {bytes : List ℕ} → e'.role ≡ e.role →
-      (outcome_of e'.position.phase ≡ None → outcome_of e.position.phase ≡ None) →
-      GaveSince sources first e bytes last → GaveSince sources first e' bytes last
-  gave_still role still h = search rules
-
-module _ {S K : Type 0} (sources : SourceMeaning S) (sinks : SinkMeaning K) (x : OpenEnd) (from : Endpoint)
-    (first s s' : S) (turn : Turn) (moved : Moved) (gave : GaveSo x moved)
-    (since : GaveSince sources first x.state moved.bytes s) (still : outcome_of x.state.position.phase ≡ None)
-    (measured : length x.text ≡ x.state.role.length) where
-  abbrev wants : Terms → ℕ → ℕ
-  wants terms number = block_length x.state.role.length terms.size number
-
-  abbrev Since : List ℕ → Type 0
-  Since bytes = GaveSince sources first (after_turn x.state turn) bytes s'
-
-  -- all was sent before
-  before : GivesInTurn sources first moved.bytes s
-  before = search rules
-
-  all_given : (terms : Terms) (number : ℕ) (h : Sends sources terms number from x.state s turn s') →
-      Since (moved.bytes ++ h.piece)
-  all_given terms number h = record {
-    rest = [];
-    given = rw ((append-nil (moved.bytes ++ h.piece))) (Gave_more before h.gives);
-    going = λ o. refl;
-    whole = λ l. refl;
-  }
-
-  -- a block that was not read has no bytes, if all was sent
-  no_piece : (terms : Terms) (number : ℕ) (h : Sends sources terms number from x.state s turn s') →
-      wants terms number ≤ length x.left → length (moved.bytes ++ []) ≡ x.state.role.length → h.piece ≡ []
-  no_piece terms number h within all = search (rules, at_most, length-append, nil_from_length)
-
-  -- the end is closed then
-  closed : (terms : Terms) (number : ℕ) (h : Sends sources terms number from x.state s turn s') →
-      result_count_is (wants terms number) h.answer ≡ false →
-      turn ≡ refused_turn terms FileChanged outcomes.SourceFault from x.state
-  closed terms number h count = search rules
-
-  given_none : (terms : Terms) (number : ℕ) (h : Sends sources terms number from x.state s turn s') →
-      wants terms number ≤ length x.left → result_count_is (wants terms number) h.answer ≡ false →
-      Since (moved.bytes ++ [])
-  given_none terms number h within count = record {
-    rest = h.piece;
-    given = rw (← ap (λ (t : List ℕ). t ++ h.piece) (sym (append-nil moved.bytes))) (Gave_more before h.gives);
-    going = λ o. absurd (let f : Some outcomes.SourceFault ≡ None =
-        ap (λ (t : Turn). outcome_of t.position.phase) (sym (closed terms number h count)) ∙ o in cc);
-    whole = λ all. no_piece terms number h within all;
-  }
-
-  given_either : (terms : Terms) (number : ℕ) (h : Sends sources terms number from x.state s turn s') →
-      wants terms number ≤ length x.left → (b : Bool) → result_count_is (wants terms number) h.answer ≡ b →
-      Since (moved.bytes ++ (if b then h.piece else []))
-  given_either terms number h within true count = all_given terms number h
-  given_either terms number h within false count = given_none terms number h within count
-
-  -- the source is as it was
-  same_source : (a b : S) → ◌≡◌ {A = Files S K} (Source a) (Source b) → a ≡ b
-  same_source a b e = cc
-
-  acts_give : (action : Action) → ReadsWithin x.state.role.length x.left action →
-      (bytes : List ℕ) (acts : Acts sources sinks action from bytes x.state (Source s) turn (Source s')) →
-      Since (acts_move sources sinks action from bytes x.state (Source s) turn (Source s') acts moved).bytes
-  acts_give action within bytes acts = search (rules, same_source, before, all_given, given_either)
-
-  -- a step
-  pub step_gives : (network : Network) → EndKept network x → is_sender x.state.role.side ≡ true →
-      (bytes : List ℕ) (step : DatagramStep sources sinks from bytes x.state (Source s) turn (Source s')) →
-      Since (step_moves sources sinks from bytes x.state (Source s) turn (Source s') step moved).bytes
-  step_gives network kept sender bytes step = search (rules, acts_give, reads_within)

@@ -57,9 +57,7 @@ module _ {S F D : Type 0} where
   came_none : (here : Bool) (came : Came S F D) →
       (here ≡ true → (held : TransferState F D) (store : S) → came ≡ A_transfer held store → ⊥) →
       came_if here came ≡ None
-  came_none true (A_transfer held store) n = absurd (n refl held store refl)
-  came_none false (A_transfer held store) n = refl
-  came_none here came n = refl
+  came_none here came n = search rules
 
 module _ {S F D : Type 0} {stores : StoreMeaning S D} {sources : SourceMeaning F} where
   port_more : {now : ℕ} {old new : PortState S F D} (does : PortStep stores sources now old new) (moved : Moved) →
@@ -122,10 +120,10 @@ module _ {S F D G K : Type 0} {stores : StoreMeaning S D} {sources : SourceMeani
   none_beside serves a n = search (rules, port_moves, same_other, place_at)
 
   -- a datagram at its own place
-  pub moves_here : (serves : ServesPort stores sources old new) (moved : Moved) →
-      does_move programs (place_at programs serves.timer.port run) run (At_port serves) moved ≡ port_moves serves.does
-      moved
-  moves_here serves moved = search (rules, port_moves, same_self, place_at)
+  pub moves_here : (serves : ServesPort stores sources old new) (a : Endpoint) →
+      place_at programs serves.timer.port run ≡ a → (moved : Moved) →
+      does_move programs a run (At_port serves) moved ≡ port_moves serves.does moved
+  moves_here serves a here moved = search (rules, port_moves, same_self, place_at)
 
   -- a request that opens no transfer there
   pub none_answered : (answers : AnswersRequest stores sources old new) (a : Endpoint) →

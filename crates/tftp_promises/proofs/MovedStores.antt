@@ -13,16 +13,15 @@ use Rattle.std.specs.Result.{result_err}
 use Rattle.tftp_file.specs.Sink.{CommitsFreely, UnlessArmed, as_committed, with_piece}
 use Rattle.tftp_ends.specs.Step.{Appended, Stores}
 use Rattle.tftp_store.specs.Drafts.{Took_more, Written_back}
+use Rattle.tftp_promises.specs.Moved.{commits_after}
+use Rattle.tftp_promises.proofs.Invariant.{TookSo, TookBy}
 use Rattle.tftp_file.specs.declared.fault.StoreFault.TheVariants as faults
 use Rattle.tftp_ends.specs.declared.error_reply.ErrorReply.TheVariants as replies
 use Rattle.tftp_ends.specs.declared.outcome.Outcome.TheVariants as outcomes
-use Rattle.tftp_promises.specs.Moved.{commits_after}
-use Rattle.tftp_promises.proofs.Invariant.{TookSo, TookBy}
 
 -- a fault that anything may return
 any_fault : {A E : Type 0} (answer : Result A E) (P : E → Type 0) → ((fault : E) → P fault) → IfErr answer P
-any_fault (Ok done) P f = tt
-any_fault (Err fault) P f = f fault
+any_fault answer P f = search rules
 
 -- what a sink holds that was handed these bytes; without bytes it was not called
 abbrev handed : List ℕ → Holding → Holding
@@ -30,22 +29,18 @@ handed [] before = before
 handed (b ∷ bytes) before = with_piece before (b ∷ bytes)
 
 handed_bytes : (bytes : List ℕ) (before : Holding) → (handed bytes before).bytes ≡ before.bytes ++ bytes
-handed_bytes [] before = sym (append-nil before.bytes)
-handed_bytes (b ∷ bytes) before = refl
+handed_bytes bytes before = search (rules, append-nil)
 
 handed_refuses : (bytes : List ℕ) (before : Holding) → (handed bytes before).refuses ≡ before.refuses
-handed_refuses [] before = refl
-handed_refuses (b ∷ bytes) before = refl
+handed_refuses bytes before = search rules
 
 handed_committed : (bytes : List ℕ) (before : Holding) → (handed bytes before).committed ≡ true →
     before.committed ≡ true
-handed_committed [] before e = e
-handed_committed (b ∷ bytes) before e = absurd (true≢false (sym e))
+handed_committed bytes before e = search (rules, true≢false)
 
 unless_armed : {A : Type 0} (armed : Bool) (before : Holding) (after : Holding) (answer : Result A StoreFault)
     (P : Type 0) → armed ≡ false → P → UnlessArmed armed before (Some after) answer P
-unless_armed true before after answer P e p = absurd (true≢false e)
-unless_armed false before after answer P e p = p
+unless_armed armed before after answer P e p = search (rules, true≢false)
 
 -- what a commit leaves
 abbrev commit_leaves : Result Done StoreFault → Holding → Holding
@@ -54,25 +49,20 @@ commit_leaves (Err fault) before = before
 
 commit_freely : (before : Holding) (answer : Result Done StoreFault) →
     CommitsFreely before (Some (commit_leaves answer before)) answer
-commit_freely before (Ok done) = refl
-commit_freely before (Err fault) = refl
+commit_freely before answer = search rules
 
 commit_bytes : (answer : Result Done StoreFault) (before : Holding) → (commit_leaves answer before).bytes ≡ before.bytes
-commit_bytes (Ok done) before = refl
-commit_bytes (Err fault) before = refl
+commit_bytes answer before = search rules
 
 commit_refuses : (answer : Result Done StoreFault) (before : Holding) →
     (commit_leaves answer before).refuses ≡ before.refuses
-commit_refuses (Ok done) before = refl
-commit_refuses (Err fault) before = refl
+commit_refuses answer before = search rules
 
 or_left : (a b : Bool) → a ≡ true → (a || b) ≡ true
-or_left true b e = refl
-or_left false b e = absurd (true≢false (sym e))
+or_left a b e = search (rules, true≢false)
 
 or_right : (a b : Bool) → b ≡ true → (a || b) ≡ true
-or_right true b e = refl
-or_right false b e = e
+or_right a b e = search rules
 
 -- ---- a step
 -- of a receiver over what its sink was handed
@@ -130,17 +120,14 @@ module _ {S K : Type 0} (sources : SourceMeaning S) (sinks : SinkMeaning K) (fro
 
     commit_done : (answer : Result Done StoreFault) → sinks.after_commit k k' (result_err answer) →
         (commit_leaves answer mid).committed ≡ true → (mid.committed ≡ true) ⊎ sinks.after_commit k k' None
-    commit_done (Ok done) effect c = inr effect
-    commit_done (Err fault) effect c = inl c
+    commit_done answer effect c = search rules
 
   goes_so : (terms : Terms) (number : ℕ) (e : EndState) (last : Bool) (text : List ℕ) (k k' : K)
       (answer : Result Done StoreFault) (before mid : Holding) → mid.refuses ≡ false →
       (h : GoesOn sinks terms number from e last text k answer turn k') →
       GoesSo e k k' answer before mid (commits_after sources sinks terms number from e last text k answer turn k' h)
       (GoesOn known_sink terms number from e last text mid answer turn)
-  goes_so terms number e true text k k' (Err fault) before mid free h =
-      stays_so (closes terms replies.DiskFull e h.0) (h.0, refl)
-  goes_so terms number e false text k k' (Err fault) before mid free h =
+  goes_so terms number e last text k k' (Err fault) before mid free h =
       stays_so (closes terms replies.DiskFull e h.0) (h.0, refl)
   goes_so terms number e false text k k' (Ok done) before mid free h = stays_so (λ o. (refl, h.1)) (h.0, refl)
   goes_so terms number e true text k k' (Ok done) before mid free h = record {

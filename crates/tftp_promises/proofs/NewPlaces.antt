@@ -1,23 +1,22 @@
 -- No two transfers of a run are at one place, and none is at a client's endpoint.
 use Rattle.tftp_promises.proofs.Common.{List, ℕ, ◌≡◌, rules, sym, Endpoint, refl, [], ◌∙◌, ap, SourceMeaning, Some}
 use Rattle.tftp_promises.proofs.Common.{subst, inl, StoreMeaning, inr, ◌∷◌, SinkMeaning, false, true, None, ◌++◌}
-use Rattle.tftp_promises.proofs.Common.{Programs, Bool, ◌⊎◌, Contains, Files, SocketEvent, Option, true≢false, arith}
-use Rattle.tftp_promises.proofs.Common.{◌≢◌, LoopState, length, slice_get, LoopStep, joined, ClientOf, outcome_of}
-use Rattle.tftp_promises.proofs.Common.{OpenEnd, if◌then◌else◌, is_sender, client_at, endpoint, Snapshot, Run, Turn}
-use Rattle.tftp_promises.proofs.Common.{suc, Moved, Mode, Sink, Source, Then, Start, Spells, WirePacket, EndView, zero}
-use Rattle.tftp_promises.proofs.Common.{◌≤◌, Contains-push, requests_at, after_turn, ◌<◌, ◌+◌, DatagramStep, server_did}
-use Rattle.tftp_promises.proofs.Common.{our_ports, Has_asked, map, Came, Contains-append_cases, IsAmong, opened_at}
-use Rattle.tftp_promises.proofs.Common.{Request_answered, Contains-append_left, Elsewhere, left_by, Left}
-use Rattle.tftp_promises.proofs.Common.{AnswersRequest, Contains-append_right, Holding, is_ours, opened_ports}
-use Rattle.tftp_promises.proofs.Common.{ClientProgram, known_sink, known_source, IsUnblamed, files_of, option_to_list}
-use Rattle.tftp_promises.proofs.Common.{At_server, place, wire_text, Machine, Party, AreDistinct, length-append, above}
-use Rattle.tftp_promises.proofs.Common.{opened_by, slice_get_read, ours_by, run, start, IsFromServer}
+use Rattle.tftp_promises.proofs.Common.{Programs, Bool, ◌⊎◌, Contains, Files, SocketEvent, Option, arith, ◌≢◌}
+use Rattle.tftp_promises.proofs.Common.{LoopState, length, slice_get, LoopStep, joined, ClientOf, outcome_of, OpenEnd}
+use Rattle.tftp_promises.proofs.Common.{if◌then◌else◌, is_sender, client_at, endpoint, Snapshot, Run, Turn, suc, Mode}
+use Rattle.tftp_promises.proofs.Common.{Then, Start, Spells, WirePacket, EndView, zero, ◌≤◌, Contains-push, requests_at}
+use Rattle.tftp_promises.proofs.Common.{after_turn, ◌<◌, ◌+◌, DatagramStep, server_did, our_ports, Has_asked, map, Came}
+use Rattle.tftp_promises.proofs.Common.{Contains-append_cases, IsAmong, opened_at, Request_answered}
+use Rattle.tftp_promises.proofs.Common.{Contains-append_left, Elsewhere, left_by, AnswersRequest}
+use Rattle.tftp_promises.proofs.Common.{Contains-append_right, Holding, is_ours, opened_ports, ClientProgram}
+use Rattle.tftp_promises.proofs.Common.{known_sink, known_source, IsUnblamed, files_of, option_to_list, At_server}
+use Rattle.tftp_promises.proofs.Common.{place, wire_text, Machine, Party, AreDistinct, length-append, above, opened_by}
+use Rattle.tftp_promises.proofs.Common.{slice_get_read, ours_by, run, start, IsFromServer}
 use Rattle.tftp_rules.proofs.UnblamedEnds.{datagram_unblamed}
 use Rattle.tftp_promises.specs.Openings.{total}
 use Rattle.tftp_promises.proofs.Places.{placed_by, places, at_port}
-use Rattle.tftp_promises.proofs.Invariant.{IsFreshBy, ClientKept, HasArrived, HasFile, HasStored, IsKept, IsOfClient}
-use Rattle.tftp_promises.proofs.Invariant.{IsOfTransfer, IsOpened, IsViewed, SendsText, TransferKept, client_text}
-use Rattle.tftp_promises.proofs.Invariant.{place_text}
+use Rattle.tftp_promises.proofs.Invariant.{IsFreshBy, ClientKept, HasArrived, IsKept, IsOfClient, IsOfTransfer}
+use Rattle.tftp_promises.proofs.Invariant.{IsViewed, SendsText, TransferKept, place_text}
 use Rattle.tftp_promises.proofs.Orders.{nothing_in, first_or_more, one_in}
 
 -- no number exceeds a sum of it and others
@@ -28,14 +27,20 @@ total_most (m ∷ ns) n c = elim (first_or_more m n ns c) [
   | inr more ↦ let l = total_most ns n more in omega (arith, l)
 ]
 
--- the second of distinct ports differs from those after it
-second_apart : (first second port : ℕ) (ports : List ℕ) → AreDistinct (first ∷ (second ∷ ports)) → Contains ports port →
-    port ≢ second
-second_apart first second port ports distinct c same =
-    let there : slice_get ports c.0 ≡ Some port = slice_get_read ports (length ports) c.0 port refl c.1 (sym c.2) in
-    let one : suc zero ≡ suc (suc c.0) =
-    distinct (suc zero) (suc (suc c.0)) second refl (there ∙ ap (λ (p : ℕ). Some p) same) in
-    omega (arith, one)
+-- no port is there twice, element by element
+abbrev pub NoneTwice : List ℕ → Type 0
+NoneTwice [] = Unit {0}
+NoneTwice (x ∷ xs) = (Contains xs x → ⊥) × NoneTwice xs
+
+pub none_twice : (xs : List ℕ) → AreDistinct xs → NoneTwice xs
+none_twice [] d = tt
+none_twice (x ∷ xs) d = (
+  λ c.
+      let there : slice_get xs c.0 ≡ Some x = slice_get_read xs (length xs) c.0 x refl c.1 (sym c.2) in
+      let one : zero ≡ suc c.0 = d zero (suc c.0) x refl there in
+      omega (arith, one),
+  none_twice xs (λ j k port e f. let l = d (suc j) (suc k) port e f in omega (arith, l)),
+)
 
 -- the port of a client is not above all
 client_most : {G K : Type 0} {inputs : SourceMeaning G} {outputs : SinkMeaning K} {to : Endpoint}
@@ -58,7 +63,7 @@ module _ {S F D : Type 0} {stores : StoreMeaning S D} {sources : SourceMeaning F
   tid_by came tid e = search rules
 
   pub own_tid : (tid : ℕ) → answers.left.opened.tid ≡ Some tid → tid ≡ answers.tid
-  own_tid tid is = tid_by answers.steps.came tid (ap (λ (l : Left S F D). l.opened.tid) (sym answers.steps.left) ∙ is)
+  own_tid tid is = search (rules, tid_by)
 
 module _ {S F D G K : Type 0} {stores : StoreMeaning S D} {sources : SourceMeaning F} {inputs : SourceMeaning G}
     {outputs : SinkMeaning K} (programs : Programs stores sources inputs outputs) where
@@ -138,7 +143,7 @@ module _ {S F D G K : Type 0} {stores : StoreMeaning S D} {sources : SourceMeani
     pub client_apart : (k : ℕ) (client : Client) → slice_get programs.clients k ≡ Some client → client_at client ≢ a
     client_apart k client found same = elim (place_cases snapshot.run a known) [
       | inl h ↦
-          fresh.apart k h.port client found (Contains-append_right (programs.port ∷ [])
+          fresh.ends.apart k h.port client found (Contains-append_right (programs.port ∷ [])
           (our_ports programs snapshot.run) h.port h.known) (same ∙ h.is)
       | inr h ↦
           let most = client_most programs.clients k client found in
@@ -150,7 +155,7 @@ module _ {S F D G K : Type 0} {stores : StoreMeaning S D} {sources : SourceMeani
     pub at_server : (joined programs).host_of a ≡ At_server
     at_server = elim (place_cases snapshot.run a known) [
       | inl h ↦
-          there h.port h.is (fresh.others h.port (Contains-append_right (programs.port ∷ [])
+          there h.port h.is (fresh.ends.others h.port (Contains-append_right (programs.port ∷ [])
           (our_ports programs snapshot.run) h.port h.known))
       | inr h ↦
           there (above programs + h.number) h.is
@@ -183,9 +188,9 @@ module _ {S F D G K : Type 0} {stores : StoreMeaning S D} {sources : SourceMeani
         is_ours programs answers.from ≡ b → a ≢ endpoint programs.ip (if b then tid else above programs + count)
     place_before a c true is same = elim (place_cases old.run a c) [
       | inl h ↦
-          second_apart programs.port tid h.port (our_ports programs old.run)
-          (subst (λ (ports : List ℕ). AreDistinct (programs.port ∷ ports)) (ports_are is) fresh.server) h.known
-          (port_of (endpoint programs.ip h.port) (endpoint programs.ip tid) (sym h.is ∙ same))
+          (none_twice (programs.port ∷ (tid ∷ our_ports programs old.run))
+          (subst (λ (ports : List ℕ). AreDistinct (programs.port ∷ ports)) (ports_are is) fresh.ends.server)).1.0 (subst (λ (p : ℕ). Contains (our_ports programs old.run) p)
+          (port_of (endpoint programs.ip h.port) (endpoint programs.ip tid) (sym h.is ∙ same)) h.known)
       | inr h ↦
           let low =
           fresh.below tid (subst (λ (ports : List ℕ). Contains ports tid) (sym (ports_are is))
@@ -217,8 +222,7 @@ module _ {S F D G K : Type 0} {stores : StoreMeaning S D} {sources : SourceMeani
 
   -- ---- ours among all
   ours_here : (b : Bool) (ports : List ℕ) (port : ℕ) → Contains (if b then ports else []) port → Contains ports port
-  ours_here true ports port c = c
-  ours_here false ports port c = absurd (nothing_in port c)
+  ours_here b ports port c = search (rules, nothing_in)
 
   ours_opened : {old new : LoopState S F D} (does : LoopStep stores sources old new) (port : ℕ) →
       Contains (ours_by programs does) port → Contains (opened_by does) port
@@ -264,14 +268,6 @@ module _ {S F D G K : Type 0} {stores : StoreMeaning S D} {sources : SourceMeani
 -- What an end of the programs receives makes it blame no peer that is no stranger.
 -- For the law no_program_is_blamed.
 
--- the first of distinct ports differs from those after it
-first_apart : (first port : ℕ) (ports : List ℕ) → AreDistinct (first ∷ ports) → Contains ports port → port ≢ first
-first_apart first port ports distinct c same =
-    let there : slice_get ports c.0 ≡ Some port = slice_get_read ports (length ports) c.0 port refl c.1 (sym c.2) in
-    let one : zero ≡ suc c.0 =
-    distinct zero (suc c.0) first refl (there ∙ ap (λ (p : ℕ). Some p) same) in
-    omega (arith, one)
-
 module _ {S F D G K : Type 0} {stores : StoreMeaning S D} {sources : SourceMeaning F} {inputs : SourceMeaning G}
     {outputs : SinkMeaning K} {programs : Programs stores sources inputs outputs} {pad : ℕ}
     {snapshot : Snapshot programs} (kept : IsKept pad snapshot) (fresh : IsFreshBy snapshot) where
@@ -279,7 +275,9 @@ module _ {S F D G K : Type 0} {stores : StoreMeaning S D} {sources : SourceMeani
   pub apart_from_requests : (a : Endpoint) → Contains (places programs snapshot.run) a → a ≢ requests_at programs
   apart_from_requests a known same = elim (place_cases programs snapshot.run a known) [
     | inl h ↦
-        first_apart programs.port h.port _ fresh.server h.known (ap (λ (z : Endpoint). z.port) (sym h.is ∙ same))
+        (none_twice (programs.port ∷ our_ports programs snapshot.run) fresh.ends.server).0
+        (subst (λ (p : ℕ). Contains (our_ports programs snapshot.run) p) (ap (λ (z : Endpoint). z.port) (sym h.is ∙ same))
+        h.known)
     | inr h ↦
         let at : above programs + h.number ≡ programs.port = ap (λ (z : Endpoint). z.port) (sym h.is ∙ same) in
         omega (arith, at)
@@ -287,17 +285,6 @@ module _ {S F D G K : Type 0} {stores : StoreMeaning S D} {sources : SourceMeani
 
   abbrev ends : Endpoint → Party
   ends = Machine.party (run (joined programs) kept.shown.0 start)
-
-  -- what a sender sends is what its run says
-  client_sends : (client : ClientOf programs) (files : Files G K) (x : OpenEnd) (moved : Moved) →
-      HasFile programs pad client x files moved → is_sender x.state.role.side ≡ true →
-      x.text ≡ client_text programs pad client
-  client_sends client files x moved has sends = search rules
-
-  transfer_sends : (x : OpenEnd) (files : Files F D) → HasStored pad snapshot x files →
-      is_sender x.state.role.side ≡ true → (x.text ≡ place_text programs pad x.address) × IsOpened programs snapshot.run x
-  transfer_sends x (Source source) has sends = (has.text, has.opened)
-  transfer_sends x (Sink sink) has sends = absurd (true≢false (sym sends ∙ has.receiver))
 
   -- the text of a view is that of its end
   module _ (from : Endpoint) (mode : Mode) (view : EndView) (among : IsAmong kept.views view)
@@ -314,7 +301,7 @@ module _ {S F D G K : Type 0} {stores : StoreMeaning S D} {sources : SourceMeani
         kept.clients h.k h.client (Has_asked h.s h.files h.noted h.moved) h.found h.is_stage in
         let at : from ≡ client_at h.client = sym here ∙ h.address in
         same_text own.end own.viewed (at ∙ sym own.address) (λ s.
-        text.client h.k h.client h.found at ∙ sym (client_sends h.client h.files own.end h.moved own.has s))
+        text.client h.k h.client h.found at ∙ sym (own.has.text s))
 
     of_transfer : IsOfTransfer snapshot view.address → wire_text mode text.file ≡ (ends from).text
     of_transfer h =
@@ -323,15 +310,14 @@ module _ {S F D G K : Type 0} {stores : StoreMeaning S D} {sources : SourceMeani
         let at : from ≡ own.end.address = sym here ∙ sym own.address in
         let known = kept.server.opened h.port h.transfer view.address h.is_transfer in
         same_text own.end own.viewed at (λ s.
-        let t = transfer_sends own.end h.transfer.files own.has s in
-        let opened : opened_at programs from programs.server.run ≡ Some t.1.opening =
+        let opened : opened_at programs from programs.server.run ≡ Some own.has.opened.opening =
         ap (λ (a : Endpoint). opened_at programs a programs.server.run) (sym here)
         ∙ (sym (fresh.told view.address known).opened
-        ∙ (ap (λ (a : Endpoint). opened_at programs a snapshot.run) (sym own.address) ∙ t.1.opened)) in
+        ∙ (ap (λ (a : Endpoint). opened_at programs a snapshot.run) (sym own.address) ∙ own.has.opened.opened)) in
         text.transfer
         (λ k client found same. client_apart programs snapshot fresh view.address known k client found (sym (here ∙ same)))
-        t.1.opening opened
-        ∙ (ap (place_text programs pad) at ∙ sym t.0))
+        own.has.opened.opening opened
+        ∙ (ap (place_text programs pad) at ∙ sym (own.has.text s)))
 
   -- what a peer sends can be read, if it is the text of a file
   readable : (from : Endpoint) (mode : Mode) → SendsText programs pad from mode → (ends from).is_open ≡ true →

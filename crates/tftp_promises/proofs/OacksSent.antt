@@ -16,6 +16,7 @@ use Rattle.tftp_promises.proofs.StepEvents.{step_adds}
 use Rattle.tftp_promises.proofs.TransferLives.{run_config, transfers_live}
 use Rattle.tftp_promises.proofs.TransferTraces.{transfers_noted, all_is, all_of, has_later, sent_in}
 use Rattle.tftp_promises.proofs.Orders.{IsUnsent}
+use Rattle.tftp_promises.proofs.Places.{run_requests}
 
 -- of each OACK that was noted since the trace was so, this holds
 record AreSo (before : List SocketEvent) (Holds : Endpoint → List ℕ → Type 0) (events : List SocketEvent) : Type 0 where
@@ -73,10 +74,6 @@ so_weaker before One Other weaker events h = record {
 }
 
 module _ {S F D : Type 0} (stores : StoreMeaning S D) (sources : SourceMeaning F) where
-  -- the request port stays
-  step_requests : {old new : LoopState S F D} → LoopStep stores sources old new → new.requests ≡ old.requests
-  step_requests h0 = search rules
-
   -- what is pending is as it was, or was received now
   abbrev Pends : LoopState S F D → LoopState S F D → Type 0
   Pends old new =
@@ -135,7 +132,6 @@ module _ {S F D : Type 0} (stores : StoreMeaning S D) (sources : SourceMeaning F
   -- what is known at each time of a run
   record Known {now : LoopState S F D} (run : Run (LoopStep stores sources) start now) : Type 0 where
     so : AreSo start.events (IsOpenedBy run) now.events
-    requests : now.requests ≡ start.requests
     pending : (from : Endpoint) (bytes : List ℕ) → now.pending ≡ Some (from, bytes) →
         Has (Received start.requests from bytes) so.noted
 
@@ -283,7 +279,6 @@ module _ {S F D : Type 0} (stores : StoreMeaning S D) (sources : SourceMeaning F
       ∙ sym (append_assoc adds.0 h.so.noted start.events)))) in
       record {
         so = so;
-        requests = step_requests stores sources does ∙ h.requests;
         pending = λ from bytes is. elim (step_pends stores sources does from bytes is) [
           | inl before ↦
               subst (λ (es : List SocketEvent). Has (Received start.requests from bytes) es) (sym noted_is)
@@ -294,7 +289,7 @@ module _ {S F D : Type 0} (stores : StoreMeaning S D) (sources : SourceMeaning F
               (sym so.is
               ∙ (now ∙ ap (λ (es : List SocketEvent). Received old.requests from bytes ∷ es) h.so.is)) in
               subst (λ (es : List SocketEvent). Has (Received start.requests from bytes) es) (sym all)
-              (inl (ap (λ (p : ℕ). Received p from bytes) h.requests))
+              (inl (ap (λ (p : ℕ). Received p from bytes) (run_requests run)))
         ];
       }
 
@@ -302,7 +297,6 @@ module _ {S F D : Type 0} (stores : StoreMeaning S D) (sources : SourceMeaning F
       start.server.held ≡ [] → IsBlockSize start.server.config.limits.max_block → Known run
   oacks_open Start idle none max = record {
     so = record { noted = []; is = refl; sent = λ port to bytes there oack. absurd there };
-    requests = refl;
     pending = λ from bytes is. absurd (let f : None ≡ Some (from, bytes) = sym idle ∙ is in cc);
   }
   oacks_open (Then run does) idle none max = known_still run does (oacks_open run idle none max) none max

@@ -8,7 +8,7 @@ use Rattle.tftp_promises.proofs.Common.{PortState, left_by, Nothing, Left, port_
 use Rattle.tftp_promises.proofs.Common.{A_datagram, Work, A_timeout, KeepsHeld, server_is, Transfer_closed, WorksAt}
 use Rattle.tftp_promises.proofs.Common.{Backoff, without, with_new, IsSome, A_lost_datagram, at_start, LoopConfig}
 use Rattle.tftp_promises.proofs.Common.{Waited, is_at, cond, nat_cmp, Timer, slice_set, slice_index_or, Equal, Ordering}
-use Rattle.tftp_promises.proofs.Common.{is_eq, stays_at, match_ordering, Less, Greater}
+use Rattle.tftp_promises.proofs.Common.{is_eq, stays_at, match_ordering, Less, Greater, slice_get_read, same_Some}
 use Rattle.std.proofs.Common.{eqb}
 use Rattle.std.specs.List.{swap_remove, sum_by}
 use Rattle.std.specs.Map.{lookup, remove_entry, set_value}
@@ -73,33 +73,28 @@ module _ {X : Type 0} (port_of : X → ℕ) where
       omega (arith, one)
   hits_at port (x ∷ xs) (suc i) e = let more = hits_at port xs i e in omega (arith, more)
 
+  -- the port of the first element is not there again, if it is there once
+  hit_again : (x : X) (xs : List X) (k port : ℕ) → Some (port_of x) ≡ Some port →
+      slice_get (map port_of xs) k ≡ Some port → hits port (x ∷ xs) ≤ 1 → ⊥
+  hit_again x xs k port e f most =
+      let one : hit port (port_of x) ≡ 1 = ap (hit port) (same_Some (port_of x) port e) ∙ hit_same port in
+      let more = hits_at port xs k f in
+      omega (arith, one, more, most)
+
   -- if no port is there twice, one port is at one index
   pub hits_apart : (xs : List X) → ((port : ℕ) → hits port xs ≤ 1) → (j k port : ℕ) →
       slice_get (map port_of xs) j ≡ Some port → slice_get (map port_of xs) k ≡ Some port → j ≡ k
   hits_apart [] most j k port e f = absurd (let n : None ≡ Some port = e in cc)
   hits_apart (x ∷ xs) most zero zero port e f = refl
-  hits_apart (x ∷ xs) most zero (suc k) port e f =
-      let same : port_of x ≡ port = (let n : Some (port_of x) ≡ Some port = e in cc) in
-      let one : hit port (port_of x) ≡ 1 = ap (hit port) same ∙ hit_same port in
-      let more = hits_at port xs k f in
-      let all = most port in
-      absurd (omega (arith, one, more, all))
-  hits_apart (x ∷ xs) most (suc j) zero port e f =
-      let same : port_of x ≡ port = (let n : Some (port_of x) ≡ Some port = f in cc) in
-      let one : hit port (port_of x) ≡ 1 = ap (hit port) same ∙ hit_same port in
-      let more = hits_at port xs j e in
-      let all = most port in
-      absurd (omega (arith, one, more, all))
+  hits_apart (x ∷ xs) most zero (suc k) port e f = absurd (hit_again x xs k port e f (most port))
+  hits_apart (x ∷ xs) most (suc j) zero port e f = absurd (hit_again x xs j port f e (most port))
   hits_apart (x ∷ xs) most (suc j) (suc k) port e f =
       ap suc (hits_apart xs (λ p. let all = most p in omega (arith, all)) j k port e f)
 
   pub hits_contained : (port : ℕ) (xs : List X) (k : ℕ) → k < length (map port_of xs) →
       slice_index_or (map port_of xs) k port ≡ port → 0 < hits port xs
-  hits_contained port [] k l e = absurd (omega (arith, l))
-  hits_contained port (x ∷ xs) zero l e =
-      let one : hit port (port_of x) ≡ 1 = ap (hit port) e ∙ hit_same port in omega (arith, one)
-  hits_contained port (x ∷ xs) (suc k) l e =
-      let more = hits_contained port xs k (omega (arith, l)) e in omega (arith, more)
+  hits_contained port xs k l e =
+      hits_at port xs k (slice_get_read (map port_of xs) (length (map port_of xs)) k port refl l (sym e))
 
   pub contains_hit : (port : ℕ) (xs : List X) → 0 < hits port xs → Contains (map port_of xs) port
   contains_hit port [] h = absurd (omega (arith, h))
@@ -229,8 +224,7 @@ module _ {F D : Type 0} where
 
   -- what was taken was there
   was_there : (o : Option (TransferState F D)) (taken : Record × Option D) → taken_of o ≡ Some taken → IsSome o
-  was_there None taken e = absurd (let f : None ≡ Some taken = e in cc)
-  was_there (Some transfer) taken e = refl
+  was_there o taken e = search rules
 
 module _ {S F D : Type 0} (stores : StoreMeaning S D) (sources : SourceMeaning F) where
   -- a step at a port leaves the transfers, or has another one in the place of that at the port
@@ -245,7 +239,7 @@ module _ {S F D : Type 0} (stores : StoreMeaning S D) (sources : SourceMeaning F
   keeps_held port (Some transfer) old new (inl keeps) = inr (keeps.0, keeps.2)
   keeps_held port (Some transfer) old new (inr works) = inr (works.0, works.2)
 
-  port_held : (now : ℕ) (old new : PortState S F D) → PortStep stores sources now old new →
+  pub port_held : (now : ℕ) (old new : PortState S F D) → PortStep stores sources now old new →
       LeavesHeld old.timer.port old.server.held new.server.held
   port_held now old new (A_datagram d) = inr (d.handles.takes.next, d.handles.takes.held)
   port_held now old new (A_lost_datagram d) =
@@ -259,10 +253,7 @@ module _ {S F D : Type 0} (stores : StoreMeaning S D) (sources : SourceMeaning F
   -- so it keeps the ports of all transfers
   port_keys : (now : ℕ) (old new : PortState S F D) → PortStep stores sources now old new → (p : ℕ) →
       keyed p new.server.held ≡ keyed p old.server.held
-  port_keys now old new does p = elim (port_held now old new does) [
-    | inl same ↦ ap (keyed p) same
-    | inr other ↦ ap (keyed p) other.1 ∙ keyed_set (is_at (nat_cmp old.timer.port)) p other.0 old.server.held
-  ]
+  port_keys now old new does p = search (rules, port_held, keyed_set)
 
   -- what the request port leaves
   answers_matched : (now : ℕ) (longest : Option ℕ) (backoff : Backoff) (from : Endpoint) (tid : ℕ) (old : ServerState S F D) (timers : List Timer)

@@ -1,8 +1,8 @@
 -- Elements of lists; the events of one step, of which what was sent is the answer; what one program noted of an order
 -- of events; and lists with one element per client.
-use Rattle.tftp_promises.proofs.Common.{List, ℕ, ◌≡◌, rules, sym, Endpoint, refl, [], ◌∙◌, ap, Some, subst, inl, inr}
-use Rattle.tftp_promises.proofs.Common.{◌∷◌, false, true, None, ◌++◌, Bool, ◌⊎◌, Contains, SocketEvent, Option, arith}
-use Rattle.tftp_promises.proofs.Common.{◌≢◌, length, slice_get, Sent, if◌then◌else◌, same_Some, suc, Noted, ◌==◌, zero}
+use Rattle.tftp_promises.proofs.Common.{List, ℕ, ◌≡◌, rules, sym, Endpoint, refl, [], ◌∙◌, ap, Some, inl, inr, ◌∷◌}
+use Rattle.tftp_promises.proofs.Common.{false, true, None, ◌++◌, Bool, ◌⊎◌, Contains, SocketEvent, Option, arith}
+use Rattle.tftp_promises.proofs.Common.{length, slice_get, Sent, if◌then◌else◌, same_Some, suc, Noted, ◌==◌, zero}
 use Rattle.tftp_promises.proofs.Common.{Contains-push, Reply, Elapsed, eq-eqb, append_cancel_right, map, Printed}
 use Rattle.tftp_promises.proofs.Common.{events_of, Contains-append_cases, answered, Contains-append_left, set}
 use Rattle.tftp_promises.proofs.Common.{common_steps, Contains-append_right, AllByRecursion, option_map, cond-true}
@@ -93,9 +93,6 @@ later_in y xs x i = Contains-append_right (y ∷ []) xs x i
 pub events_own : (p : ℕ) (e : SocketEvent) (order : List Noted) → events_of p ((p, e) ∷ order) ≡ e ∷ events_of p order
 events_own p e order = cond-true (p == p) (e ∷ events_of p order) (events_of p order) (eq-eqb p p refl)
 
-pub events_other : (p q : ℕ) (e : SocketEvent) (order : List Noted) → p ≢ q → events_of p ((q, e) ∷ order) ≡ events_of p order
-events_other p q e order n = search rules
-
 either_in : (b : Bool) (x e : SocketEvent) (events : List SocketEvent) → Contains events e →
     Contains (if b then x ∷ events else events) e
 either_in true x e events i = later_in x events e i
@@ -105,8 +102,7 @@ pub noted_in : (p : ℕ) (e : SocketEvent) (order : List Noted) → Contains ord
 noted_in p e [] i = absurd (nothing_in (p, e) i)
 noted_in p e (x ∷ order) i = elim (Contains-append_cases (x ∷ []) order (p, e) i) [
   | inl here ↦
-      subst (λ (z : Noted). Contains (events_of p (z ∷ order)) e) (sym (one_in (p, e) x here))
-      (subst (λ (es : List SocketEvent). Contains es e) (sym (events_own p e order)) (first_in e (events_of p order)))
+      rw (one_in (p, e) x here, eq-eqb p p refl) (first_in e (events_of p order))
   | inr later ↦ either_in (x.0 == p) x.1 e (events_of p order) (noted_in p e order later)
 ]
 

@@ -4,11 +4,10 @@ use Rattle.tftp_promises.proofs.Common.{subst, inl, StoreMeaning, inr, ◌∷◌
 use Rattle.tftp_promises.proofs.Common.{Programs, Bool, ◌⊎◌, Contains, SocketEvent, true≢false, arith, ◌≢◌, LoopState}
 use Rattle.tftp_promises.proofs.Common.{slice_get, LoopStep, Sent, if◌then◌else◌, is_sender, client_at, Received}
 use Rattle.tftp_promises.proofs.Common.{endpoint, same_Some, Run, suc, IsStranger, Noted, ◌==◌, cases_Bool, zero}
-use Rattle.tftp_promises.proofs.Common.{IsPrefixOf, Elapsed, our_ports, eq-eqb, Watched, Printed, is_complete}
-use Rattle.tftp_promises.proofs.Common.{AreJoined, events_of, Quiet, client_end, common_steps, TakesOwn, ArePortsFresh}
-use Rattle.tftp_promises.proofs.Common.{MayCome, ProgramEnd, IsEnd, IsHonest, eqb-true, heard_with, alone, CanCome}
-use Rattle.tftp_promises.proofs.Common.{number_of, AreDistinct, IsOrder, ips, KeepAnyFiles, IsOurs, OneClient, IsAtOf}
-use Rattle.tftp_promises.proofs.Common.{Several, OneServer, has_of, WasSent}
+use Rattle.tftp_promises.proofs.Common.{IsPrefixOf, our_ports, eq-eqb, is_complete, AreJoined, events_of, client_end}
+use Rattle.tftp_promises.proofs.Common.{common_steps, TakesOwn, ArePortsFresh, MayCome, ProgramEnd, IsEnd, IsHonest}
+use Rattle.tftp_promises.proofs.Common.{eqb-true, heard_with, alone, CanCome, number_of, AreDistinct, IsOrder, ips}
+use Rattle.tftp_promises.proofs.Common.{KeepAnyFiles, IsOurs, OneClient, IsAtOf, Several, OneServer, has_of, WasSent}
 use Rattle.tftp_rules.proofs.ViewSafe.{first_of_empty}
 use Rattle.tftp_promises.specs.Alone.{HasNothing, IsPassedOver, OthersHaveNothing, just_asking}
 use Rattle.tftp_promises.specs.AnyFiles.{peer_of}
@@ -266,11 +265,7 @@ module _ {S F D G K : Type 0} {stores : StoreMeaning S D} {sources : SourceMeani
   comes (suc zero) n e order within starts h = absurd (n refl)
   comes (suc (suc p)) n (Received q from bytes) order within starts h =
       absurd (let f : None ≡ Some h.1.0 = h.1.1 in cc)
-  comes p n (Sent port to bytes) order within starts h = tt
-  comes p n (Watched watch) order within starts h = tt
-  comes p n (Elapsed port time) order within starts h = tt
-  comes p n (Printed line) order within starts h = tt
-  comes p n (Quiet event) order within starts h = tt
+  comes p n e order within starts h = tt
 
   abbrev Honest : List Noted → Type 0
   Honest order = IsHonest less order

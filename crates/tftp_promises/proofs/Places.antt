@@ -18,8 +18,7 @@ at_of client server = if client then At_client else if server then At_server els
 
 -- at the server's address nobody is elsewhere, and no client is
 at_address : (client : Bool) → at_of client true ≢ Elsewhere
-at_address true e = cc
-at_address false e = cc
+at_address client e = search rules
 
 -- who is neither a client nor at the server's address is elsewhere
 elsewhere_by : (client server : Bool) → (if client then true else server) ≡ false → at_of client server ≡ Elsewhere
@@ -29,8 +28,7 @@ neither_by : (client server : Bool) → at_of client server ≡ Elsewhere → (i
 neither_by client server e = search rules
 
 either_way : (b r : Bool) → r ≡ true → (if b then true else r) ≡ true
-either_way true r e = refl
-either_way false r e = e
+either_way b r e = search rules
 
 -- whether it is one of the ports
 pub port_in : (ports : List ℕ) (port : ℕ) → has_port ports port ≡ true → Contains ports port
@@ -52,16 +50,13 @@ port_has (p ∷ ports) port c = elim (Contains-append_cases (p ∷ []) ports por
 ]
 
 from_not : (b : Bool) → not b ≡ true → b ≡ false
-from_not true e = absurd (let f : false ≡ true = e in cc)
-from_not false e = refl
+from_not b e = search rules
 
 &&-left : (a b : Bool) → (a && b) ≡ true → a ≡ true
-&&-left true b e = refl
-&&-left false b e = e
+&&-left a b e = search rules
 
 &&-right : (a b : Bool) → (a && b) ≡ true → b ≡ true
-&&-right true b e = e
-&&-right false b e = absurd (let f : false ≡ true = e in cc)
+&&-right a b e = search rules
 
 module _ {G K : Type 0} {inputs : SourceMeaning G} {outputs : SinkMeaning K} {to : Endpoint} where
   has_own : (clients : List (ClientProgram inputs outputs to)) (k : ℕ) (client : ClientProgram inputs outputs to) →
@@ -86,6 +81,16 @@ module _ {G K : Type 0} {inputs : SourceMeaning G} {outputs : SinkMeaning K} {to
       cond-false (is_same a (client_at x)) true (has_client clients a)
       (same_other a (client_at x) (λ e. none zero x refl (sym e)))
       ∙ has_none clients a (λ k client i. none (suc k) client i)
+
+-- the request port of a server stays
+module _ {S F D : Type 0} {stores : StoreMeaning S D} {sources : SourceMeaning F} where
+  pub step_requests : {old new : LoopState S F D} → LoopStep stores sources old new → new.requests ≡ old.requests
+  step_requests does = search rules
+
+  pub run_requests : {first last : LoopState S F D} → Run (LoopStep stores sources) first last →
+      last.requests ≡ first.requests
+  run_requests Start = refl
+  run_requests (Then run does) = step_requests does ∙ run_requests run
 
 module _ {S F D G K : Type 0} {stores : StoreMeaning S D} {sources : SourceMeaning F} {inputs : SourceMeaning G}
     {outputs : SinkMeaning K} (programs : Programs stores sources inputs outputs) where
@@ -144,6 +149,11 @@ module _ {S F D G K : Type 0} {stores : StoreMeaning S D} {sources : SourceMeani
 
   pub stranger_no_port : (a : Endpoint) → (joined programs).host_of a ≡ At_server → IsStranger programs a → ⊥
   stranger_no_port a there h = search (rules, strange_elsewhere)
+
+  -- the request port stays
+  pub requests_stay : {last : LoopState S F D} → Run (LoopStep stores sources) programs.server.start last →
+      last.requests ≡ programs.port
+  requests_stay run = run_requests run ∙ programs.server.requests
 
   -- Where a run opened its transfers.
   -- by a step

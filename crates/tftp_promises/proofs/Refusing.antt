@@ -1,17 +1,15 @@
 -- Which first answers a waiting client refuses. For the law a_client_ends_for_a_reason.
-use Rattle.tftp_promises.proofs.Common.{List, ℕ, ◌≡◌, rules, sym, Endpoint, refl, [], ◌∙◌, Some, subst, inl, inr, ◌∷◌}
-use Rattle.tftp_promises.proofs.Common.{false, true, None, Bool, EndState, ◌⊎◌, Option, true≢false, arith, length}
-use Rattle.tftp_promises.proofs.Common.{if◌then◌else◌, is_sender, Mode, ◌==◌, cases_Bool, ◌≤◌, not, ◌<◌, ◌+◌, Ok}
-use Rattle.tftp_promises.proofs.Common.{IsBlockSize, Outcome, Action, Ack, Role, Respond, datagram_action, Known, ◌*◌}
-use Rattle.tftp_promises.proofs.Common.{Terms, ◌&&◌, Error, Data, has_error_opcode, Result, Store, Phase, Packet, Err}
-use Rattle.tftp_promises.proofs.Common.{RawOption, nat_lt, Asked, terms_of, size, DEFAULT_BLOCK, Refusal, ◌^◌}
-use Rattle.tftp_promises.proofs.Common.{agreed_options, writer_action, WrongPeer, packet_action, Ignore, is_wrong_peer}
-use Rattle.tftp_promises.proofs.Common.{garbled_response, is_none, Refuse, Waiting, MAX_BLOCK, answer, agreement}
-use Rattle.tftp_promises.proofs.Common.{accept_action, reader_action, begin_with_action, nat_le, next_action}
-use Rattle.tftp_promises.proofs.Common.{illegal_action, is_readable, data_action, same_address, ltb-true, Limits}
-use Rattle.tftp_promises.proofs.Common.{asked_options, IfSome, default_terms, no_answer}
+use Rattle.tftp_promises.proofs.Common.{List, ℕ, ◌≡◌, rules, Endpoint, refl, [], Some, inl, inr, ◌∷◌, false, true, None}
+use Rattle.tftp_promises.proofs.Common.{Bool, EndState, ◌⊎◌, Option, true≢false, arith, length, if◌then◌else◌}
+use Rattle.tftp_promises.proofs.Common.{is_sender, Mode, ◌==◌, cases_Bool, ◌≤◌, not, ◌<◌, Ok, IsBlockSize, Outcome}
+use Rattle.tftp_promises.proofs.Common.{Action, Ack, Role, Respond, datagram_action, Known, ◌*◌, Terms, ◌&&◌, Error}
+use Rattle.tftp_promises.proofs.Common.{Data, has_error_opcode, Result, Phase, Packet, Err, RawOption, nat_lt, Asked}
+use Rattle.tftp_promises.proofs.Common.{terms_of, size, DEFAULT_BLOCK, Refusal, ◌^◌, agreed_options, writer_action}
+use Rattle.tftp_promises.proofs.Common.{WrongPeer, packet_action, Ignore, is_wrong_peer, garbled_response, is_none}
+use Rattle.tftp_promises.proofs.Common.{Waiting, MAX_BLOCK, answer, agreement, accept_action, reader_action}
+use Rattle.tftp_promises.proofs.Common.{begin_with_action, nat_le, next_action, data_action, same_address, ltb-true}
+use Rattle.tftp_promises.proofs.Common.{Limits, asked_options, IfSome}
 use Rattle.std.proofs.lemmas.Bool.{ltb-false}
-use Rattle.tftp_ends.specs.declared.action.Response.TheVariants.{ResendReply}
 use Rattle.tftp_negotiate.specs.declared.refusal.Refusal.TheVariants.{Repeated, TooLarge}
 use Rattle.tftp_negotiate.specs.Options.{name_of, number_of}
 use Rattle.tftp_negotiate.specs.Agreement.{taken, taken_option}
@@ -20,18 +18,16 @@ use Rattle.tftp_negotiate.specs.Negotiation.{each_judged, kept_before, repeats}
 use Rattle.tftp_negotiate.specs.declared.name.Name.{Name}
 use Rattle.tftp_negotiate.proofs.LawsLemmas.{ends_agree}
 use Rattle.tftp_ends.specs.Opening.{asked_size}
+use Rattle.tftp_promises.proofs.FirstRefused.{ClosesBy}
 use Rattle.tftp_negotiate.specs.declared.refusal.Refusal.TheVariants as refusals
-use Rattle.tftp_ends.specs.declared.error_reply.ErrorReply.TheVariants as replies
 use Rattle.tftp_ends.specs.declared.outcome.Outcome.TheVariants as outcomes
 use Rattle.tftp_negotiate.specs.declared.known.Kind.TheVariants as kinds
-use Rattle.tftp_promises.proofs.FirstRefused.{ClosesBy}
 
 module _ (o : Outcome) where
   -- of two actions
   pub closes_if : (b : Bool) (one two : Action) → ClosesBy o (if b then one else two) →
       ((b ≡ true) × ClosesBy o one) ⊎ ((b ≡ false) × ClosesBy o two)
-  closes_if true one two h = inl (refl, h)
-  closes_if false one two h = inr (refl, h)
+  closes_if b one two h = search rules
 
   -- ---- what a waiting client does at a datagram
   abbrev pub waiting_as : Role → Asked → ℕ → Endpoint → Option Packet → Action
@@ -57,31 +53,12 @@ module _ (o : Outcome) where
   from_not false e = absurd (true≢false e)
 
   no_stranger : {P : Type 0} (b : Bool) → ClosesBy o (if b then Respond Ignore else Respond WrongPeer) → P
-  no_stranger true h = absurd h
-  no_stranger false h = absurd h
+  no_stranger b h = search rules
 
   pub closes_at : (e : EndState) (asked : Asked) (limit : ℕ) (to from : Endpoint) (bytes : List ℕ)
       (decoded : Option Packet) → e.position.phase ≡ Waiting asked limit → e.position.last_sent_to ≡ to →
       ClosesBy o (datagram_action e from bytes decoded) → ClosesAt e.role asked limit to from bytes decoded
-  closes_at e asked limit to from bytes decoded phase to_is h =
-      let waiting : ClosesBy o (action_in e to from bytes decoded (Waiting asked limit)) =
-      subst (λ (p : Phase). ClosesBy o (action_in e to from bytes decoded p)) phase
-      (subst (λ (a : Endpoint). ClosesBy o (action_in e a from bytes decoded e.position.phase)) to_is h) in
-      elim (closes_if (not (same_address to from))
-      (if has_error_opcode bytes then Respond Ignore else Respond WrongPeer)
-      (if has_error_opcode bytes && is_none decoded then Respond (garbled_response (Waiting asked limit))
-      else packet_action e from decoded (Waiting asked limit)) waiting) [
-        | inl wrong ↦ no_stranger (has_error_opcode bytes) wrong.1
-        | inr right ↦ record {
-          near = from_not (same_address to from) right.0;
-          by = elim (closes_if (has_error_opcode bytes && is_none decoded)
-              (Respond (garbled_response (Waiting asked limit)))
-              (packet_action e from decoded (Waiting asked limit)) right.1) [
-                | inl garbled ↦ inl garbled.0
-                | inr packet ↦ inr packet.1
-              ];
-        }
-      ]
+  closes_at e asked limit to from bytes decoded phase to_is h = search (rules, closes_if, from_not, no_stranger)
 
   -- a packet is not garbled
   pub of_packet : (role : Role) (asked : Asked) (limit : ℕ) (to from : Endpoint) (bytes : List ℕ) (p : Packet)
@@ -97,43 +74,17 @@ module _ (o : Outcome) where
   -- ---- a block
   next_never : {P : Type 0} (mode : Mode) (terms : Terms) (number : ℕ) (piece : List ℕ) →
       ClosesBy o (next_action mode [] terms number piece) → P
-  next_never mode terms number piece h = elim (closes_if (nat_lt terms.size (length piece)) (illegal_action terms) _ h) [
-    | inl long ↦ absurd long.1
-    | inr rest ↦ elim (closes_if (number == 65535 && (length piece == terms.size))
-        (Respond (Refuse (Some terms) replies.FileTooLarge outcomes.TooLarge)) _ rest.1) [
-          | inl full ↦ absurd full.1
-          | inr other ↦ elim (closes_if (is_readable mode [] piece (nat_lt (length piece) terms.size))
-              (Store terms number) (Respond (Refuse (Some terms) replies.NotNetascii outcomes.NotNetascii)) other.1) [
-                | inl stores ↦ absurd stores.1
-                | inr bad ↦ absurd bad.1
-              ]
-        ]
-  ]
+  next_never mode terms number piece h = search (rules, closes_if)
 
   data_never : {P : Type 0} (mode : Mode) (terms : Terms) (number : ℕ) (piece : List ℕ) →
       ClosesBy o (data_action mode [] terms 0 number piece) → P
-  data_never mode terms number piece h = elim (closes_if (number == 0) (Respond ResendReply) _ h) [
-    | inl again ↦ absurd again.1
-    | inr rest ↦ elim (closes_if (nat_lt number 0) (Respond Ignore) _ rest.1) [
-      | inl old ↦ absurd old.1
-      | inr newer ↦ elim (closes_if (number == 0 + 1) (next_action mode [] terms number piece) (illegal_action terms)
-          newer.1) [
-            | inl next ↦ next_never mode terms number piece next.1
-            | inr far ↦ absurd far.1
-          ]
-    ]
-  ]
+  data_never mode terms number piece h = search (rules, closes_if, next_never)
 
   -- DATA 1 of at most 512 bytes does not close a reader that has no peer
   pub first_never : {P : Type 0} (mode : Mode) (asked : Asked) (limit : ℕ) (from : Endpoint) (number : ℕ) (piece : List ℕ) →
       (number == 1 && nat_le (length piece) DEFAULT_BLOCK) ≡ true →
       ClosesBy o (reader_action mode asked limit from (Some (Data number piece))) → P
-  first_never mode asked limit from number piece fits h =
-      elim (closes_if (number == 1 && nat_le (length piece) DEFAULT_BLOCK)
-      (data_action mode [] (default_terms from) 0 number piece) no_answer h) [
-        | inl first ↦ data_never mode (default_terms from) number piece first.1
-        | inr other ↦ absurd (true≢false (sym fits ∙ other.0))
-      ]
+  first_never mode asked limit from number piece fits h = search (rules, closes_if, data_never, true≢false)
 
   pub ack_closes : (mode : Mode) (asked : Asked) (limit count : ℕ) (from : Endpoint) (number : ℕ) → (number == 0) ≡ true →
       ClosesBy o (writer_action mode asked limit count from (Some (Ack number))) →

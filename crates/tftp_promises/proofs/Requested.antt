@@ -1,25 +1,23 @@
 -- What the request port's decision implies for the request.
 use Rattle.tftp_promises.proofs.Common.{List, ℕ, ◌≡◌, rules, sym, Endpoint, refl, [], ◌∙◌, ap, SourceMeaning, Some}
-use Rattle.tftp_promises.proofs.Common.{subst, inl, StoreMeaning, inr, ◌∷◌, false, true, None, Bool, EndState, ◌⊎◌}
-use Rattle.tftp_promises.proofs.Common.{Option, arith, length, if◌then◌else◌, Mode, Sink, Source, ServerState}
-use Rattle.tftp_promises.proofs.Common.{WirePacket, ◌≤◌, ◌<◌, Ok, A_transfer, IsBlockSize, Came, Ack, WireRequest}
-use Rattle.tftp_promises.proofs.Common.{Known, Nothing, ◌*◌, Left, requested, Read, Error_reply, Error, Data}
-use Rattle.tftp_promises.proofs.Common.{has_error_opcode, Result, serving_read, Opening, Oack, Err, RawOption, nat_lt}
-use Rattle.tftp_promises.proofs.Common.{path_of_name, Write, size, block_length, DEFAULT_BLOCK, Refusal, if_acts, ◌^◌}
-use Rattle.tftp_promises.proofs.Common.{MAX_BLOCK, StoreFault, ErrorReply, serving_write, answer, AreGranted}
-use Rattle.tftp_promises.proofs.Common.{AsksToRead, ltb-true, GivesInTurn, Limits, FileChanged, first_moved}
+use Rattle.tftp_promises.proofs.Common.{subst, inl, StoreMeaning, inr, ◌∷◌, false, true, Bool, EndState, ◌⊎◌, Option}
+use Rattle.tftp_promises.proofs.Common.{arith, length, if◌then◌else◌, Mode, Sink, Source, ServerState, WirePacket, ◌≤◌}
+use Rattle.tftp_promises.proofs.Common.{◌<◌, Ok, A_transfer, IsBlockSize, Came, WireRequest, Known, Nothing, ◌*◌, Left}
+use Rattle.tftp_promises.proofs.Common.{requested, Read, Error_reply, has_error_opcode, Result, serving_read, Opening}
+use Rattle.tftp_promises.proofs.Common.{RawOption, nat_lt, path_of_name, Write, size, block_length, DEFAULT_BLOCK}
+use Rattle.tftp_promises.proofs.Common.{Refusal, if_acts, ◌^◌, MAX_BLOCK, StoreFault, ErrorReply, serving_write, answer}
+use Rattle.tftp_promises.proofs.Common.{AreGranted, AsksToRead, ltb-true, GivesInTurn, Limits, FileChanged, first_moved}
 use Rattle.tftp_promises.proofs.Common.{Gave_nothing, Gave_more, Ask}
 use Rattle.tftp_file.specs.declared.path.PathFault.{PathFault}
 use Rattle.tftp_server.specs.Port.{Ignores, Refuses, Reads, Writes, asks, by_kind, by_name, by_options, by_packet}
-use Rattle.tftp_server.specs.Port.{by_repeat, Service, Sends, Refused, accept_reply, by_draft, by_file, by_length}
-use Rattle.tftp_server.specs.Port.{open_reply}
+use Rattle.tftp_server.specs.Port.{by_repeat, Service, Sends, Refused, by_draft, by_file, by_length}
 use Rattle.tftp_ends.specs.declared.error_reply.ErrorReply.TheVariants.{FileTooLarge}
 use Rattle.tftp_ends.specs.Opening.{ServesRead}
 use Rattle.tftp_store.specs.Store.{measured}
 use Rattle.tftp_server.specs.Request.{AsksToWrite, Goes, RequestStep, Sent, Starts, Taken, opened_length}
 use Rattle.tftp_rules.proofs.Granted.{answer_granted, answer_small}
-use Rattle.tftp_negotiate.specs.declared.known.Kind.TheVariants as kinds
 use Rattle.tftp_promises.proofs.MovedSends.{piece_length}
+use Rattle.tftp_negotiate.specs.declared.known.Kind.TheVariants as kinds
 
 -- the packet is a request to write, or to read, for this path, in this mode and with these options, and it is not
 -- repeated
@@ -62,7 +60,6 @@ module _ (limits : Limits) (repeated : Bool) (bytes : List ℕ) where
     asked_to_write r path a found new e = search rules
 
     implied : (decoded : Option WirePacket) → Implies decoded (by_packet cap count repeated limits decoded)
-    implied None = tt
     implied (Some (Read r)) =
         unless_repeated (Some (Read r)) (by_name cap count (by_kind kinds.Read r.mode r.options limits)
         (path_of_name r.name))
@@ -73,10 +70,7 @@ module _ (limits : Limits) (repeated : Bool) (bytes : List ℕ) where
         (path_of_name r.name))
         (λ new. named (Some (Write r)) (by_kind kinds.Write r.mode r.options limits) (path_of_name r.name)
         (λ path found. asked_to_write r path (answer r.options kinds.Write r.mode 0 limits) found new refl))
-    implied (Some (Data number bytes)) = tt
-    implied (Some (Ack number)) = tt
-    implied (Some (Error code text)) = tt
-    implied (Some (Oack options)) = tt
+    implied decoded = tt
 
     -- it is known of each decision
     pub asks_imply : (decoded : Option WirePacket) → Implies decoded (asks cap count repeated limits bytes decoded)
@@ -240,17 +234,13 @@ module _ {S F D : Type 0} (meaning : StoreMeaning S D) (sources : SourceMeaning 
       answered : (a : Result (List Known) Refusal) →
           answer options kinds.Read mode opening.length old.config.limits ≡ a →
           Has_sent (by_length path mode opening.length a) opening → Read_answers path mode options
-      answered (Err refusal) e h = inl (refuses came (accept_reply refusal) h)
-      answered (Ok agreed) e h = numbered agreed e (nat_lt opening.length (65535 * size agreed)) refl h
+      answered a e h = search (rules, numbered, refuses)
 
     read_by : (path : List ℕ) (mode : Mode) (options : List RawOption) (file : Result (Opening F) StoreFault) →
         ((opening : Opening F) → file ≡ Ok opening → IsOpenedBy path mode came opening) →
         Sent meaning sources old from bytes (by_file old.config.limits path mode options (opened_length file)) file
         came → Read_answers path mode options
-    read_by path mode options (Err fault) opened h = inl (refuses came (open_reply fault) h)
-    read_by path mode options (Ok opening) opened h =
-        answered path mode options opening (opened opening refl)
-        (answer options kinds.Read mode opening.length old.config.limits) refl h
+    read_by path mode options file opened h = search (rules, answered, refuses)
 
     -- a read is refused, or a transfer opens
     pub read_answered : (path : List ℕ) (mode : Mode) (options : List RawOption) →

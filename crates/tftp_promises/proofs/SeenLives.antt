@@ -3,13 +3,12 @@ use Rattle.tftp_promises.proofs.Common.{List, ℕ, ◌≡◌, rules, sym, Endpoi
 use Rattle.tftp_promises.proofs.Common.{false, true, ◌++◌, Bool, ◌⊎◌, SocketEvent, true≢false, arith, Sent}
 use Rattle.tftp_promises.proofs.Common.{if◌then◌else◌, Received, suc, Noted, ◌==◌, zero, ◌≤◌, ◌+◌, Elapsed, eq-eqb}
 use Rattle.tftp_promises.proofs.Common.{events_of, Act, Has, Took, Said, eqb-true, Lost, Timed, OneAct, IsNoActAt}
-use Rattle.tftp_promises.proofs.Common.{IsEventOf, Begins_so, Tells, heads, HasCopies, HasOrder}
-use Rattle.std.proofs.Common.{append-nil}
+use Rattle.tftp_promises.proofs.Common.{IsEventOf, Begins_so, Tells, heads, HasCopies, HasOrder, ne_eqb}
 use Rattle.tftp_lives.specs.Lives.{timed}
 use Rattle.tftp_lives.proofs.OneOrder.{nothing_left}
 use Rattle.tftp_promises.specs.GivesUp.{elapsed}
-use Rattle.tftp_promises.specs.Outlasting.{AreShown, Shows, Ends_so, Opens_so, Closes_so, Another, Of_client, Of_server}
 use Rattle.tftp_promises.proofs.StepEvents.{no_more}
+use Rattle.tftp_promises.specs.Outlasting.{Shows, Ends_so, Opens_so, Closes_so, Another, Of_client, Of_server}
 
 -- ---- the newest event
 -- it is that act
@@ -52,15 +51,13 @@ module _ (port : ℕ) where
   pub tells_sent : (events : List SocketEvent) (acts : List Act) → Tells port events acts → (to : Endpoint)
       (bytes : List ℕ) → Has (Said to bytes) acts → Has (Sent port to bytes) events
   tells_sent events acts t to bytes h =
-      let there = tells_act events acts t (Said to bytes) h in
-      subst (λ (e : SocketEvent). Has e events) there.2 there.1
+      let there = tells_act events acts t (Said to bytes) h in rw there.2 at there.1
 
   -- what was handled was received
   pub tells_took : (events : List SocketEvent) (acts : List Act) → Tells port events acts → (from : Endpoint)
       (bytes : List ℕ) → Has (Took from bytes) acts → Has (Received port from bytes) events
   tells_took events acts t from bytes h =
-      let there = tells_act events acts t (Took from bytes) h in
-      subst (λ (e : SocketEvent). Has e events) there.2 there.1
+      let there = tells_act events acts t (Took from bytes) h in rw there.2 at there.1
 
   -- copy by copy
   pub tells_copies : (events : List SocketEvent) (acts : List Act) → Tells port events acts → (n : ℕ) (to : Endpoint)
@@ -113,8 +110,7 @@ module _ (port : ℕ) where
       (later : List Act) → IsEventOf port e act → SeenSince events to bytes (timed later) →
       SeenSince (e ∷ events) to bytes (timed (act ∷ later))
   seen_act e Timed events to bytes later is h =
-      subst (λ (x : SocketEvent). SeenSince (x ∷ events) to bytes (1 + timed later)) (sym is.1)
-      (seen_time is.0 events to bytes (timed later) h)
+      rw is.1 (seen_time is.0 events to bytes (timed later) h)
   seen_act e act events to bytes later is h = seen_on e events to bytes (timed later) h
 
   since_newest : (e : SocketEvent) (events : List SocketEvent) (act : Act) (rest later : List Act) (to : Endpoint)
@@ -168,7 +164,7 @@ module _ (port : ℕ) where
     ]
     | inr new ↦ subst (IsHandled from bytes) (sym new.is) (elim h [
       | inl here ↦
-          act_received from bytes new.act new.rest (subst (λ (x : SocketEvent). IsEventOf port x new.act) here new.event)
+          act_received from bytes new.act new.rest (rw here at new.event)
       | inr more ↦
           either_more from bytes new.act new.rest (tells_received events new.rest new.tells from bytes more)
     ])
@@ -186,194 +182,110 @@ newest_if : (port : ℕ) (b : Bool) {e : SocketEvent} {events : List SocketEvent
     IsPassedBy port b e events acts ⊎ ((b ≡ true) × IsNewest port e events acts)
 newest_if port b t = search rules
 
--- ---- an order in two parts, by what one program noted
-record IsCut (program : ℕ) (order : List Noted) (newer older : List SocketEvent) : Type 0 where
-  pub first : List Noted
-  pub rest : List Noted
-  pub is : order ≡ first ++ rest
-  pub first_is : events_of program first ≡ newer
-  pub rest_is : events_of program rest ≡ older
-
-cut_by : (program : ℕ) (e : Noted) (order : List Noted) (x : SocketEvent) (newer older : List SocketEvent) (b : Bool) →
-    (e.0 == program) ≡ b →
-    (if b then e.1 ∷ events_of program order else events_of program order) ≡ x ∷ (newer ++ older) →
-    (events_of program order ≡ newer ++ older → IsCut program order newer older) →
-    (events_of program order ≡ x ∷ (newer ++ older) → IsCut program order (x ∷ newer) older) →
-    IsCut program (e ∷ order) (x ∷ newer) older
-cut_by program e order x newer older true own is within beside =
-    let parts = heads e.1 x (events_of program order) (newer ++ older) is in
-    let cut = within parts.1 in
-    record {
-      first = e ∷ cut.first;
-      rest = cut.rest;
-      is = ap (λ (es : List Noted). e ∷ es) cut.is;
-      first_is =
-          ap (λ (b : Bool). if b then e.1 ∷ events_of program cut.first else events_of program cut.first) own
-          ∙ same_cons e.1 x (events_of program cut.first) newer parts.0 cut.first_is;
-      rest_is = cut.rest_is;
-    }
-  where
-    same_cons : (a b : SocketEvent) (xs ys : List SocketEvent) → a ≡ b → xs ≡ ys →
-        ◌≡◌ {A = List SocketEvent} (a ∷ xs) (b ∷ ys)
-    same_cons a b xs ys same rest = cc
-cut_by program e order x newer older false own is within beside =
-    let cut = beside is in
-    record {
-      first = e ∷ cut.first;
-      rest = cut.rest;
-      is = ap (λ (es : List Noted). e ∷ es) cut.is;
-      first_is =
-          ap (λ (b : Bool). if b then e.1 ∷ events_of program cut.first else events_of program cut.first) own
-          ∙ cut.first_is;
-      rest_is = cut.rest_is;
-    }
-
-cut : (program : ℕ) (order : List Noted) (newer older : List SocketEvent) → events_of program order ≡ newer ++ older →
-    IsCut program order newer older
-cut program order [] older is = record { first = []; rest = order; is = refl; first_is = refl; rest_is = is }
-cut program [] (x ∷ newer) older is = no_more x (newer ++ older) is
-cut program (e ∷ order) (x ∷ newer) older is =
-    cut_by program e order x newer older (e.0 == program) refl is (cut program order newer older)
-    (cut program order (x ∷ newer) older)
-
 -- ---- the acts of both
 module _ (k port at : ℕ) where
-  abbrev Merged : Bool → List Noted → List Act → List Act → Type 0
-  Merged active order client server = (acts : List OneAct) × AreShown k port at active order client server acts
+  abbrev InOrder : List Noted → List Act → List Act → List SocketEvent → Type 0
+  InOrder order client server later = HasOrder k port at order client server (later ≡ [])
 
-  apart : suc k ≡ 0 → ⊥
-  apart e = cc
+  closed : (active : Bool) {order : List Noted} {acts : List OneAct} → Shows k port at active order acts →
+      Shows k port at false order acts
+  closed true shown = Closes_so shown
+  closed false shown = shown
 
-  -- with a newest event that is none of the two's, is the client's, or is the server's
-  another : (active : Bool) (program : ℕ) (event : SocketEvent) (order : List Noted) (client server : List Act) →
-      (program ≡ suc k → IsNoActAt port event) → (program ≡ 0 → active ≡ true → IsNoActAt at event) →
-      Merged active order client server → Merged active ((program, event) ∷ order) client server
-  another active program event order client server not_client not_server m = (
-    m.0,
-    record {
-      shown = Another program event not_client not_server m.1.shown;
-      client_acts = m.1.client_acts;
-      server_acts = m.1.server_acts;
-    },
-  )
+  unopened : (event : SocketEvent) {order : List Noted} {acts : List OneAct} → Shows k port at false order acts →
+      Shows k port at false ((0, event) ∷ order) acts
+  unopened event shown = Another 0 event (λ e. absurd (cc)) (λ _ on. absurd (true≢false (sym on))) shown
 
-  of_client : (active : Bool) (program : ℕ) (event : SocketEvent) (order : List Noted) (client server : List Act) →
-      (program == suc k) ≡ true → (new : IsNewest port event (events_of (suc k) order) client) →
-      Merged active order new.rest server → Merged active ((program, event) ∷ order) client server
-  of_client active program event order client server own new m = (
-    (true, new.act) ∷ m.0,
-    record {
-      shown =
-          subst (λ (q : ℕ). Shows k port at active ((q, event) ∷ order) ((true, new.act) ∷ m.0))
-          (sym (eqb-true program (suc k) own)) (Of_client event new.act new.event m.1.shown);
-      client_acts = ap (λ (acts : List Act). new.act ∷ acts) m.1.client_acts ∙ sym new.is;
-      server_acts = m.1.server_acts;
-    },
-  )
+  -- the same acts, with events that are no acts
+  passes : {order more : List Noted} {client server : List Act} {later newer : List SocketEvent}
+      (m : InOrder order client server later) (active : Bool) → Shows k port at active more m.acts →
+      (newer ≡ [] → active ≡ true) → InOrder more client server newer
+  passes m active shown still = record {
+    active = active;
+    acts = m.acts;
+    are = record { shown = shown; client_acts = m.are.client_acts; server_acts = m.are.server_acts };
+    still = still;
+  }
 
-  of_server : (program : ℕ) (event : SocketEvent) (order own_order : List Noted) (client server : List Act) →
-      (program == 0) ≡ true → (new : IsNewest at event (events_of 0 own_order) server) →
-      Merged true order client new.rest → Merged true ((program, event) ∷ order) client server
-  of_server program event order own_order client server own new m = (
-    (false, new.act) ∷ m.0,
-    record {
-      shown =
-          subst (λ (q : ℕ). Shows k port at true ((q, event) ∷ order) ((false, new.act) ∷ m.0))
-          (sym (eqb-true program 0 own)) (Of_server event new.act new.event m.1.shown);
-      client_acts = m.1.client_acts;
-      server_acts = ap (λ (acts : List Act). new.act ∷ acts) m.1.server_acts ∙ sym new.is;
-    },
-  )
+  -- with a newest event of the server, which noted these since the transfer was over, while it was open, and before
+  server_first : (event : SocketEvent) (order : List Noted) (client server : List Act)
+      (later own earlier : List SocketEvent) →
+      ((acts : List Act) (newer its older : List SocketEvent) → Tells at its acts →
+      events_of 0 order ≡ newer ++ (its ++ older) → InOrder order client acts newer) → Tells at own server →
+      event ∷ events_of 0 order ≡ later ++ (own ++ earlier) → InOrder ((0, event) ∷ order) client server later
+  server_first event order client server (x ∷ later) own earlier rest u is =
+      let m = rest server later own earlier u (heads event x _ _ is).1 in
+      passes m false (unopened event (closed m.active m.are.shown)) (λ none. absurd (cc))
+  server_first event order client server [] (x ∷ own) earlier rest u is =
+      let parts = heads event x _ _ is in
+      elim (newest_of at u) [
+        | inl passed ↦
+            let m = rest server [] own earlier passed.tells parts.1 in
+            passes m true (Another 0 event (λ e. absurd (cc)) (λ _ _. rw parts.0 passed.other)
+            (rw (m.still refl) at m.are.shown)) (λ _. refl)
+        | inr new ↦
+            let m = rest new.rest [] own earlier new.tells parts.1 in
+            record {
+              active = true;
+              acts = (false, new.act) ∷ m.acts;
+              are = record {
+                shown = Of_server event new.act (rw parts.0 new.event) (rw (m.still refl) at m.are.shown);
+                client_acts = m.are.client_acts;
+                server_acts = ap (λ (acts : List Act). new.act ∷ acts) m.are.server_acts ∙ sym new.is;
+              };
+              still = λ _. refl;
+            }
+      ]
+  server_first event order client server [] [] (x ∷ earlier) rest u is =
+      let m = rest server [] [] earlier u (heads event x _ _ is).1 in
+      passes m true (Opens_so (m.are.server_acts ∙ sym (none_of at u)) (unopened event (closed m.active m.are.shown)))
+      (λ _. refl)
+  server_first event order client server [] [] [] rest u is = absurd (cc)
 
-  -- what comes first in the order, before the rest, whatever of it is the client's
-  abbrev After : Bool → List Noted → List Act → Type 0
-  After active rest server =
-      (client : List Act) → Tells port (events_of (suc k) rest) client → Merged active rest client server
-
-  -- while the transfer is not open
-  closed : (first rest : List Noted) (server : List Act) → After false rest server → After false (first ++ rest) server
-  closed [] rest server after client t = after client t
-  closed ((program, event) ∷ first) rest server after client t = elim (newest_if port (program == suc k) t) [
-    | inl passed ↦
-        another false program event (first ++ rest) client server
-        (λ is. passed.other (eq-eqb program (suc k) is)) (λ _ is. absurd (true≢false (sym is)))
-        (closed first rest server after client passed.tells)
-    | inr n ↦
-        of_client false program event (first ++ rest) client server n.0 n.1
-        (closed first rest server after n.1.rest n.1.tells)
-  ]
-
-  -- while it is open
-  opened : (first rest : List Noted) (server : List Act) → Tells at (events_of 0 first) server → After true rest [] →
-      After true (first ++ rest) server
-  opened [] rest server u after client t =
-      subst (λ (acts : List Act). Merged true rest client acts) (none_of at u) (after client t)
-  opened ((program, event) ∷ first) rest server u after client t = elim (newest_if port (program == suc k) t) [
-    | inl passed ↦ elim (newest_if at (program == 0) u) [
-      | inl also ↦
-          another true program event (first ++ rest) client server
-          (λ is. passed.other (eq-eqb program (suc k) is)) (λ is _. also.other (eq-eqb program 0 is))
-          (opened first rest server also.tells after client passed.tells)
-      | inr n ↦
-          of_server program event (first ++ rest) first client server n.0 n.1
-          (opened first rest n.1.rest n.1.tells after client passed.tells)
-    ]
-    | inr n ↦ elim (newest_if at (program == 0) u) [
-      | inl also ↦
-          of_client true program event (first ++ rest) client server n.0 n.1
-          (opened first rest server also.tells after n.1.rest n.1.tells)
-      | inr m ↦ absurd (apart (sym (eqb-true program (suc k) n.0) ∙ eqb-true program 0 m.0))
-    ]
-  ]
-
-  -- it opens, and is over
-  opens : (rest : List Noted) → After false rest [] → After true rest []
-  opens rest after client t =
-      let m = after client t in (
-        m.0,
-        record {
-          shown = Opens_so m.1.server_acts m.1.shown;
-          client_acts = m.1.client_acts;
-          server_acts = m.1.server_acts;
-        },
-      )
-
-  closes : (rest : List Noted) (server : List Act) → After true rest server → After false rest server
-  closes rest server after client t =
-      let m = after client t in (
-        m.0,
-        record {
-          shown = Closes_so m.1.shown;
-          client_acts = m.1.client_acts;
-          server_acts = m.1.server_acts;
-        },
-      )
-
-  at_first : After false [] []
-  at_first client t = ([], record { shown = Ends_so; client_acts = none_of port t; server_acts = refl })
-
-  -- up to the end of what is the transfer's
-  until_closed : (order : List Noted) (server : List Act) (own earlier : List SocketEvent) → Tells at own server →
-      events_of 0 order ≡ own ++ earlier → After true order server
-  until_closed order server own earlier u is =
-      let within = cut 0 order own earlier is in
-      subst (λ (o : List Noted). After true o server) (sym within.is)
-      (opened within.first within.rest server
-      (subst (λ (es : List SocketEvent). Tells at es server) (sym within.first_is) u)
-      (opens within.rest
-      (subst (λ (o : List Noted). After false o []) (append-nil within.rest) (closed within.rest [] [] at_first))))
-
-  -- in the whole order, of which the server noted this since
+  -- in the whole order
   pub in_order : (order : List Noted) (client server : List Act) (later own earlier : List SocketEvent) →
       Tells port (events_of (suc k) order) client → Tells at own server →
-      events_of 0 order ≡ later ++ (own ++ earlier) → HasOrder k port at order client server (later ≡ [])
-  in_order order client server [] own earlier t u is =
-      let m = until_closed order server own earlier u is client t in
-      record { active = true; acts = m.0; are = m.1; still = λ _. refl }
-  in_order order client server (x ∷ later) own earlier t u is =
-      let since = cut 0 order (x ∷ later) (own ++ earlier) is in
-      let m =
-      subst (λ (o : List Noted). After false o server) (sym since.is)
-      (closed since.first since.rest server
-      (closes since.rest server (until_closed since.rest server own earlier u since.rest_is))) client t in
-      record { active = false; acts = m.0; are = m.1; still = λ none. no_more x later (sym none) }
+      events_of 0 order ≡ later ++ (own ++ earlier) → InOrder order client server later
+  in_order [] client server later own earlier t u is = record {
+    active = true;
+    acts = [];
+    are = record {
+      shown = Opens_so refl Ends_so;
+      client_acts = none_of port t;
+      server_acts = none_of at (rw (nothing_own later own earlier is) at u);
+    };
+    still = λ _. refl;
+  } where
+    nothing_own : (later own earlier : List SocketEvent) → [] ≡ later ++ (own ++ earlier) → own ≡ []
+    nothing_own [] [] earlier is = refl
+    nothing_own [] (x ∷ own) earlier is = no_more x (own ++ earlier) is
+    nothing_own (x ∷ later) own earlier is = no_more x (later ++ (own ++ earlier)) is
+  in_order ((zero, event) ∷ order) client server later own earlier t u is = elim (newest_if port (0 == suc k) t) [
+    | inl passed ↦
+        server_first event order client server later own earlier
+        (λ acts newer its older. in_order order client acts newer its older passed.tells) u is
+    | inr n ↦ absurd (cc (eqb-true 0 (suc k) n.0))
+  ]
+  in_order ((suc p, event) ∷ order) client server later own earlier t u is =
+      let rest : events_of 0 order ≡ later ++ (own ++ earlier) =
+      rw (ne_eqb (suc p) 0 (λ e. absurd (cc))) at is in
+      elim (newest_if port (suc p == suc k) t) [
+        | inl passed ↦
+            let m = in_order order client server later own earlier passed.tells u rest in
+            passes m m.active
+            (Another (suc p) event (λ e. passed.other (eq-eqb (suc p) (suc k) e)) (λ e. absurd (cc)) m.are.shown) m.still
+        | inr n ↦
+            let m = in_order order n.1.rest server later own earlier n.1.tells u rest in
+            record {
+              active = m.active;
+              acts = (true, n.1.act) ∷ m.acts;
+              are = record {
+                shown =
+                    subst (λ (q : ℕ). Shows k port at m.active ((q, event) ∷ order) ((true, n.1.act) ∷ m.acts))
+                    (sym (eqb-true (suc p) (suc k) n.0)) (Of_client event n.1.act n.1.event m.are.shown);
+                client_acts = ap (λ (acts : List Act). n.1.act ∷ acts) m.are.client_acts ∙ sym n.1.is;
+                server_acts = m.are.server_acts;
+              };
+              still = m.still;
+            }
+      ]

@@ -1,12 +1,12 @@
 -- What one step of a program notes: a datagram that it receives is the oldest of its events.
-use Rattle.tftp_promises.proofs.Common.{List, ℕ, ◌≡◌, sym, Endpoint, refl, [], ◌∙◌, ap, SourceMeaning, Some, subst, inl}
+use Rattle.tftp_promises.proofs.Common.{List, ℕ, ◌≡◌, sym, Endpoint, refl, [], ◌∙◌, ap, SourceMeaning, Some, inl}
 use Rattle.tftp_promises.proofs.Common.{StoreMeaning, inr, ◌∷◌, SinkMeaning, None, ◌++◌, Contains, Files, SocketEvent}
 use Rattle.tftp_promises.proofs.Common.{Option, arith, LoopState, length, LoopStep, Sent, Received, State, suc, Reply}
 use Rattle.tftp_promises.proofs.Common.{Elapsed, timeout_turn, Receives_one, append_cancel_right, ClientDoes, Watched}
-use Rattle.tftp_promises.proofs.Common.{Printed, Quiet, PortStep, Contains-append_cases, append_assoc, answered}
+use Rattle.tftp_promises.proofs.Common.{Quiet, PortStep, Contains-append_cases, append_assoc, answered}
 use Rattle.tftp_promises.proofs.Common.{Request_answered, Answers, common_steps, state_is, PortState, Waits_until}
 use Rattle.tftp_promises.proofs.Common.{Times_out, Contains-append_right, HandlesReceived, Loses, File_works}
-use Rattle.tftp_promises.proofs.Common.{Prints_line, Reads_clock, Elapses, AllByRecursion, Slept, MayElapse, Stays}
+use Rattle.tftp_promises.proofs.Common.{Elapses, AllByRecursion, Slept, MayElapse, Stays}
 use Rattle.tftp_promises.proofs.Common.{trace_is, Woke, wait_at}
 use Rattle.std.proofs.lemmas.List.Elements.{All-from_recursion, All-contains}
 use Rattle.tftp_loop.specs.Steps.{At_port, A_datagram, A_timeout, Work, Waited, Request_lost, Store_set, answering_port}
@@ -110,12 +110,11 @@ module _ {G K : Type 0} {inputs : SourceMeaning G} {outputs : SinkMeaning K} whe
   client_adds {port = port} {s = s} (Receives_one {from = from} {bytes = bytes} {watch = watch} may later handles) =
       after_wait (Quiet (Slept (wait_at s)) ∷ []) (tt, tt)
       (handle_adds handles (Watched watch) (Received port from bytes ∷ []) (tt, tt) refl)
-  client_adds (Reads_clock progress {watch} later) = Acts (Watched watch) [] [] tt tt refl
   client_adds {s = s} (Waits_until {event = event} {watch = watch} may which later) =
       Acts (Watched watch) [] (Quiet event ∷ Quiet (Slept (wait_at s)) ∷ []) tt (tt, (tt, tt)) refl
   client_adds (Times_out elapses) = after_wait [] tt (elapse_adds elapses)
   client_adds (File_works works) = Rests refl
-  client_adds (Prints_line line) = Acts (Printed line) [] [] tt tt refl
+  client_adds does = Acts _ [] [] tt tt refl
 
 -- Traces of which only the older events are seen, so that the last step is seen in part.
 
@@ -148,8 +147,8 @@ step_back {old_events} {events} {old_noted} {noted} ahead x y rest ev others own
 pub split_in : {old_events events old_noted noted seen : List SocketEvent} (e : SocketEvent) →
     Split old_events events old_noted noted seen → Contains seen e → Contains noted e
 split_in {old_noted = old_noted} e (split ahead x rest others own is noted_is seen_is) i =
-    subst (λ (es : List SocketEvent). Contains es e) (sym (noted_is ∙ append_assoc ahead (x ∷ rest) old_noted))
-    (Contains-append_right ahead ((x ∷ rest) ++ old_noted) e (subst (λ (es : List SocketEvent). Contains es e) seen_is i))
+    rw (noted_is ∙ append_assoc ahead (x ∷ rest) old_noted)
+    (Contains-append_right ahead ((x ∷ rest) ++ old_noted) e (rw seen_is at i))
 
 -- a datagram received in these events is the oldest of them
 pub oldest_in : (ahead : List SocketEvent) (x : SocketEvent) (port : ℕ) (from : Endpoint) (bytes : List ℕ) →

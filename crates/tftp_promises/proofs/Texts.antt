@@ -1,6 +1,6 @@
 -- Prefixes of texts, and a text that is padded to a length.
 use Rattle.tftp_promises.proofs.Common.{List, ℕ, ◌≡◌, rules, sym, refl, [], ◌∙◌, ap, ◌∷◌, ◌++◌, arith, length, suc}
-use Rattle.tftp_promises.proofs.Common.{zero, ◌≤◌, IsPrefixOf, append_assoc, take, length-append, drop, replicate}
+use Rattle.tftp_promises.proofs.Common.{zero, ◌≤◌, IsPrefixOf, append_assoc, heads, take, length-append, drop, replicate}
 use Rattle.std.proofs.Common.{append-nil}
 use Rattle.std.proofs.lemmas.List.{append_cancel_left, length-replicate, length-take}
 
@@ -73,22 +73,11 @@ begins_unpadded n k xs [] a b = (xs, refl)
 begins_unpadded zero k xs (z ∷ zs) a b = absurd (let f : z ∷ (zs ++ a.0) ≡ [] = a.1 in cc)
 begins_unpadded (suc n) zero [] (z ∷ zs) a b = absurd (let f : z ∷ (zs ++ a.0) ≡ [] = a.1 in cc)
 begins_unpadded (suc n) (suc k) [] (z ∷ zs) a b =
-    absurd (both z (zs ++ a.0) (zs ++ b.0) (take n (replicate k 0)) (take n (replicate k 1)) a.1 b.1) where
-      both : (z : ℕ) (ps bs cs ds : List ℕ) → z ∷ ps ≡ 0 ∷ cs → z ∷ bs ≡ 1 ∷ ds → ⊥
-      both z ps bs cs ds e f =
-          let x : z ≡ 0 = cc in
-          let y : z ≡ 1 = cc in
-          omega (arith, x, y)
+    let x = (heads z 0 (zs ++ a.0) (take n (replicate k 0)) a.1).0 in
+    let y = (heads z 1 (zs ++ b.0) (take n (replicate k 1)) b.1).0 in
+    absurd (omega (arith, x, y))
 begins_unpadded (suc n) k (x ∷ xs) (z ∷ zs) a b =
-    let h =
-    begins_unpadded n k xs zs (a.0, tails z x (zs ++ a.0) (take n (xs ++ replicate k 0)) a.1)
-    (b.0, tails z x (zs ++ b.0) (take n (xs ++ replicate k 1)) b.1) in (
-      h.0,
-      ap (λ (w : ℕ). w ∷ (zs ++ h.0)) (heads z x (zs ++ a.0) (take n (xs ++ replicate k 0)) a.1)
-          ∙ ap (λ (ws : List ℕ). x ∷ ws) h.1,
-    ) where
-      tails : (z x : ℕ) (ps bs : List ℕ) → z ∷ ps ≡ x ∷ bs → ps ≡ bs
-      tails z x ps bs e = cc
-
-      heads : (z x : ℕ) (ps bs : List ℕ) → z ∷ ps ≡ x ∷ bs → z ≡ x
-      heads z x ps bs e = cc
+    let one = heads z x (zs ++ a.0) (take n (xs ++ replicate k 0)) a.1 in
+    let other = heads z x (zs ++ b.0) (take n (xs ++ replicate k 1)) b.1 in
+    let h = begins_unpadded n k xs zs (a.0, one.1) (b.0, other.1) in
+    (h.0, ap (λ (w : ℕ). w ∷ (zs ++ h.0)) one.0 ∙ ap (λ (ws : List ℕ). x ∷ ws) h.1)

@@ -1,192 +1,169 @@
--- At each time of a server's run each transfer that it holds has lived so: what it handled and sent since it opened is
--- that of the run, and is a life of its end.
-use Rattle.tftp_promises.proofs.Common.{List, ℕ, ◌≡◌, rules, sym, Endpoint, refl, [], ◌∙◌, ap, SourceMeaning, Some}
-use Rattle.tftp_promises.proofs.Common.{subst, inl, StoreMeaning, inr, ◌∷◌, false, true, None, Bool, EndState, Files}
-use Rattle.tftp_promises.proofs.Common.{Option, true≢false, arith, LoopState, TransferState, LoopStep, if◌then◌else◌}
-use Rattle.tftp_promises.proofs.Common.{at, Run, Turn, Mode, Then, Start, ServerState, ◌==◌, not, after_turn, ◌<◌}
-use Rattle.tftp_promises.proofs.Common.{cases_eq, timeout_turn, DatagramStep, A_transfer, eq-eqb, IsBlockSize, Act}
-use Rattle.tftp_promises.proofs.Common.{drafting_sink, Came, PortStep, with_next, state_is, PortState, left_by, Known}
-use Rattle.tftp_promises.proofs.Common.{Nothing, ◌*◌, Config, Left, Took, acts_at, port_state, Error_reply, ne_eqb}
-use Rattle.tftp_promises.proofs.Common.{Packet, At_port, A_datagram, serving_read, Lost, Timed, Drafting, with_reply}
-use Rattle.tftp_promises.proofs.Common.{is_closed, is_open, Work, came_if, A_timeout, KeepsHeld, server_is}
-use Rattle.tftp_promises.proofs.Common.{Transfer_closed, size, WorksAt, A_lost_datagram, newest, Life, Begins, IsLiving}
-use Rattle.tftp_promises.proofs.Common.{Times, first_act, Opens, with_end, AreGranted, port_acts, Hears}
-use Rattle.tftp_promises.proofs.Common.{A_late_datagram}
+-- What a step of a server does at a port: to the transfer there, and in the trace. So each transfer that it holds has
+-- lived as the run tells: what it handled and sent since it opened is that of the run, and is a life of its end.
+use Rattle.tftp_promises.proofs.Common.{List, ℕ, ◌≡◌, rules, sym, refl, ◌∙◌, ap, Some, inl, inr, ◌∷◌, false, true, None}
+use Rattle.tftp_promises.proofs.Common.{◌++◌, Bool, Option, arith, not, ◌<◌, ◌*◌, true≢false, cases_eq, eq-eqb, ne_eqb}
+use Rattle.tftp_promises.proofs.Common.{same_Some, AllByRecursion, ◌⊎◌, ◌≢◌, if◌then◌else◌, ◌==◌, is_some, IfSome, Mode}
+use Rattle.tftp_promises.proofs.Common.{Packet, size, IsBlockSize, Known, SourceMeaning, StoreMeaning, EndState}
+use Rattle.tftp_promises.proofs.Common.{outcome_of, serving_read, serving_write, Reply, timeout_turn, Act, Took, Lost}
+use Rattle.tftp_promises.proofs.Common.{Timed, with_reply, newest, Life, Times, Opens, Hears, Begins, drafting_sink}
+use Rattle.tftp_promises.proofs.Common.{A_transfer, Came, left_by, Nothing, Error_reply, TransferState, at, ServerState}
+use Rattle.tftp_promises.proofs.Common.{is_closed, is_open, without, KeepsHeld, with_end, WorksAt, numbers}
+use Rattle.tftp_promises.proofs.Common.{lookup-insert_other, lookup-remove_other, lookup-set_same, lookup-insert_same}
+use Rattle.tftp_promises.proofs.Common.{AreGranted, Endpoint, SocketEvent, answered, Sent, Received, Elapsed, state_is}
+use Rattle.tftp_promises.proofs.Common.{server_is, trace_is, stays_at, Run, Then, Start, LoopState, LoopStep, PortStep}
+use Rattle.tftp_promises.proofs.Common.{PortState, port_state, after_request, At_port, Transfer_closed, Request_lost}
+use Rattle.tftp_promises.proofs.Common.{Waited, Store_set, A_datagram, Work, A_timeout, A_lost_datagram}
+use Rattle.tftp_promises.proofs.Common.{A_late_datagram, acts_at, IsNoActAt, IsLiving, first_act, port_acts, came_if}
+use Rattle.tftp_promises.proofs.Common.{IsEventOf, []}
 use Rattle.tftp_lives.specs.Lives.{Loses}
 use Rattle.tftp_lives.specs.Unanswered.{MayAgree, To_serve_read, To_serve_write}
 use Rattle.tftp_loop.specs.Steps.LoopStep.{Request_answered}
-use Rattle.tftp_promises.proofs.Identifiers.{at-with_next_cases, at-without_cases, once-with_next, once-without}
-use Rattle.tftp_promises.proofs.Identifiers.{at-with_new_cases, once-with_new}
+use Rattle.tftp_loop.specs.Steps.PortStep.{A_missed_timeout}
+use Rattle.tftp_promises.proofs.Identifiers.{at-without, once-with_new, once-with_next, once-without}
 use Rattle.tftp_promises.proofs.Invariant.{AreKeyedOnce}
+use Rattle.tftp_promises.proofs.OneTimerEach.{port_held}
 use Rattle.tftp_promises.proofs.Requested.{Begins_to_send, Begins_to_store, IsFirst, PortAnswers, Says_error, Silent}
 use Rattle.tftp_promises.proofs.Requested.{port_answers}
+
+-- ---- a transfer and what is at its port then
+module _ {F D : Type 0} where
+  -- its end is the same, or there is none before and after
+  abbrev pub HaveSameEnd : Option (TransferState F D) → Option (TransferState F D) → Type 0
+  HaveSameEnd None None = Unit {0}
+  HaveSameEnd (Some was) (Some now) = now.end ≡ was.end
+  HaveSameEnd was now = ⊥
+
+  same_self : (o : Option (TransferState F D)) → HaveSameEnd o o
+  same_self None = tt
+  same_self (Some transfer) = refl
+
+  same_found : (o other : Option (TransferState F D)) → other ≡ o → HaveSameEnd o other
+  same_found o other is = rw is (same_self o)
+
+  -- one that is open then was open before
+  pub same_open : (was now : Option (TransferState F D)) → HaveSameEnd was now → is_open now ≡ true → is_open was ≡ true
+  same_open None None same still = still
+  same_open (Some t) (Some u) same still =
+      ap (λ (e : EndState). not (is_some (outcome_of e.position.phase))) (sym same) ∙ still
+  same_open None (Some u) same still = absurd same
+  same_open (Some t) None same still = absurd same
 
 module _ {S F D : Type 0} (stores : StoreMeaning S D) (sources : SourceMeaning F) where
   abbrev Lives : List Act → TransferState F D → Type 0
   Lives acts transfer = IsLiving stores sources acts transfer
 
-  -- ---- a transfer whose end is the same
-  lives_same : (acts : List Act) (transfer next : TransferState F D) → next.end ≡ transfer.end → Lives acts transfer →
-      Lives acts next
-  lives_same acts transfer next same h = record {
-    first = h.first;
-    begins = h.begins;
-    life = subst (λ (e : EndState). Life sources (drafting_sink stores) h.first acts e) (sym same) h.life;
-  }
+  -- what a step of a server does at the port q, of which the transfer before and after is known, the trace, and what
+  -- was done before
+  pub data DoesAt (q requests : ℕ) (was now : Option (TransferState F D)) (before after : List SocketEvent)
+      (acts : List Act) : List Act → Type 0 where
+    -- the end there is as it was, or is gone, and while it is open what is noted is no act of it
+    Leaves : (more : List SocketEvent) → HaveSameEnd was now ⊎ (now ≡ None) → after ≡ more ++ before →
+        (is_open was ≡ true → AllByRecursion (IsNoActAt q) more) → DoesAt q requests was now before after acts acts
+    -- it acts, and answers
+    Acts : (transfer next : TransferState F D) (e : SocketEvent) (act : Act) (reply : Option Reply) →
+        was ≡ Some transfer → is_closed transfer ≡ false → now ≡ Some next → IsEventOf q e act →
+        after ≡ answered q reply (e ∷ before) → (Lives acts transfer → Lives (with_reply reply (act ∷ acts)) next) →
+        DoesAt q requests was now before after acts (with_reply reply (act ∷ acts))
+    -- one opens
+    Opens_there : (transfer : TransferState F D) → now ≡ Some transfer → q ≢ requests → Begins transfer.end →
+        after ≡ Sent q transfer.end.position.last_sent_to transfer.end.position.last_sent ∷ before →
+        DoesAt q requests was now before after acts (newest transfer.end ∷ [])
 
-  -- ---- at the port of a transfer that is open
-  module _ (acts : List Act) (transfer next : TransferState F D) (still : is_closed transfer ≡ false) where
-    hears_so : (from : Endpoint) (bytes : List ℕ) (turn : Turn) (files files' : Files F (Drafting S D)) →
-        DatagramStep sources (drafting_sink stores) from bytes transfer.end files turn files' →
-        next.end ≡ after_turn transfer.end turn → Lives acts transfer →
-        Lives (with_reply turn.reply (Took from bytes ∷ acts)) next
-    hears_so from bytes turn files files' step is h = record {
-      first = h.first;
-      begins = h.begins;
-      life =
-          subst (λ (e : EndState). Life sources (drafting_sink stores) h.first (with_reply turn.reply (Took from bytes ∷ acts)) e)
-          (sym is) (Hears h.life still from bytes step);
-    }
+  lives_on : {acts more : List Act} {transfer next : TransferState F D} {e : EndState} (h : Lives acts transfer) →
+      Life sources (drafting_sink stores) h.first more e → next.end ≡ e → Lives more next
+  lives_on h life is = record { first = h.first; begins = h.begins; life = rw is life }
 
-    times_so : next.end ≡ after_turn transfer.end (timeout_turn transfer.end) → Lives acts transfer →
-        Lives (with_reply (timeout_turn transfer.end).reply (Timed ∷ acts)) next
-    times_so is h = record {
-      first = h.first;
-      begins = h.begins;
-      life =
-          subst (λ (e : EndState). Life sources (drafting_sink stores) h.first
-          (with_reply (timeout_turn transfer.end).reply (Timed ∷ acts)) e) (sym is) (Times h.life still);
-    }
+  -- ---- at the port of a transfer
+  kept : (port : ℕ) (o : Option (TransferState F D)) (old new : ServerState S F D) → at port old.held ≡ o →
+      KeepsHeld stores sources port o old new → HaveSameEnd o (at port new.held)
+  kept port None old new found keeps =
+      same_found None (at port new.held) (ap (λ (s : ServerState S F D). at port s.held) keeps ∙ found)
+  kept port (Some transfer) old new found keeps =
+      rw (ap (at port) keeps.2 ∙ lookup-set_same numbers port transfer keeps.0 old.held found) keeps.1.end
 
-  -- the transfers, each by its port
-  record Living (acts : ℕ → List Act) (held : List (ℕ × TransferState F D)) : Type 0 where
-    pub once : AreKeyedOnce held
-    pub all : (port : ℕ) (transfer : TransferState F D) → at port held ≡ Some transfer → Lives (acts port) transfer
+  worked : (port : ℕ) (o : Option (TransferState F D)) (old new : ServerState S F D) → at port old.held ≡ o →
+      WorksAt stores sources port o old new → HaveSameEnd o (at port new.held)
+  worked port None old new found works =
+      same_found None (at port new.held) (ap (λ (s : ServerState S F D). at port s.held) works ∙ found)
+  worked port (Some transfer) old new found works =
+      rw (ap (at port) works.2 ∙ lookup-set_same numbers port transfer works.0 old.held found)
+      (ap (λ (t : TransferState F D). t.end) works.1.rest)
 
-  -- what is done at a port, of each port
-  abbrev at_port : ℕ → (List Act → List Act) → (ℕ → List Act) → ℕ → List Act
-  at_port port f acts q = if port == q then f (acts q) else acts q
+  -- a datagram is lost there: an act, while the transfer is open
+  loses : (q requests : ℕ) (was now : Option (TransferState F D)) (from : Endpoint) (bytes : List ℕ)
+      (before after : List SocketEvent) (acts : List Act) (b : Bool) → is_open was ≡ b → HaveSameEnd was now →
+      after ≡ Received q from bytes ∷ before →
+      DoesAt q requests was now before after acts (if b then Lost from bytes ∷ acts else acts)
+  loses q requests (Some t) (Some u) from bytes before after acts true still same is =
+      let opened : is_closed t ≡ false = search rules in
+      Acts t u (Received q from bytes) (Lost from bytes) None refl opened refl refl is
+      (λ h. lives_on h (Loses h.life opened from bytes) same)
+  loses q requests None now from bytes before after acts true still same is = absurd (cc)
+  loses q requests (Some t) None from bytes before after acts true still same is = absurd same
+  loses q requests was now from bytes before after acts false still same is =
+      Leaves (Received q from bytes ∷ []) (inl same) is (λ on. absurd (true≢false (sym on ∙ still)))
 
-  -- one of them is another now, and has done more
-  next_lives : (port : ℕ) (acts : ℕ → List Act) (f : List Act → List Act) (held held' : List (ℕ × TransferState F D))
-      (transfer next : TransferState F D) → at port held ≡ Some transfer → held' ≡ with_next port next held →
-      Living acts held → (Lives (acts port) transfer → Lives (f (acts port)) next) → Living (at_port port f acts) held'
-  next_lives port acts f held held' transfer next found is h goes = record {
-    once = subst AreKeyedOnce (sym is) (once-with_next port next held h.once);
-    all = λ q t there. elim (at-with_next_cases port q transfer next t held found (ap (at q) (sym is) ∙ there)) [
-      | inl own ↦
-          subst (λ (k : ℕ). Lives (at_port port f acts k) t) (sym own.0)
-          (subst (λ (b : Bool). Lives (if b then f (acts port) else acts port) t) (sym (eq-eqb port port refl))
-          (subst (λ (u : TransferState F D). Lives (f (acts port)) u) (sym own.1) (goes (h.all port transfer found))))
-      | inr other ↦
-          subst (λ (b : Bool). Lives (if b then f (acts q) else acts q) t)
-          (sym (ne_eqb port q (λ e. other.0 (sym e)))) (h.all q t other.1)
-    ];
-  }
+  own_does : (requests now : ℕ) (old new : PortState S F D) (does : PortStep stores sources now old new)
+      (acts : List Act) → DoesAt old.timer.port requests (at old.timer.port old.server.held)
+      (at old.timer.port new.server.held) old.events new.events acts (port_acts does acts)
+  own_does requests now old new (A_datagram d) acts =
+      let t = d.handles.takes in
+      Acts t.transfer t.next (Received old.timer.port d.from d.bytes) (Took d.from d.bytes) t.takes.turn.reply t.found t.still
+      (ap (at old.timer.port) t.held ∙ lookup-set_same numbers old.timer.port t.transfer t.next old.server.held t.found)
+      refl d.handles.events (λ h. lives_on h (Hears h.life t.still d.from d.bytes t.takes.steps) t.takes.carries.state)
+  own_does requests now old new (A_timeout d) acts =
+      let t = d.times_out.times_out in
+      let next = with_end t.end t.transfer in
+      Acts t.transfer next (Elapsed old.timer.port now) Timed (timeout_turn t.transfer.end).reply t.found t.still
+      (ap (at old.timer.port) t.held ∙ lookup-set_same numbers old.timer.port t.transfer next old.server.held t.found)
+      (now, refl) d.times_out.events (λ h. lives_on h (Times h.life t.still) t.carries.state)
+  own_does requests now old new (A_lost_datagram d) acts =
+      loses old.timer.port requests (at old.timer.port old.server.held) _ d.from d.bytes old.events new.events acts _ refl
+      (kept old.timer.port (at old.timer.port old.server.held) old.server new.server refl d.loses.keeps) d.events
+  own_does requests now old new (A_late_datagram d) acts =
+      loses old.timer.port requests (at old.timer.port old.server.held) _ d.from d.bytes old.events new.events acts _ refl
+      (same_found _ _ (ap (λ (s : ServerState S F D). at old.timer.port s.held) d.server)) d.events
+  own_does requests now old new (A_missed_timeout d) acts =
+      Leaves (Elapsed old.timer.port now ∷ [])
+      (inl (same_found _ _ (ap (λ (s : ServerState S F D). at old.timer.port s.held) d.server))) d.events
+      (λ still. absurd (true≢false (sym still ∙ d.closed)))
+  own_does requests now old new (Work d) acts =
+      Leaves [] (inl (worked old.timer.port (at old.timer.port old.server.held) old.server new.server refl d.works.works))
+      d.events (λ still. tt)
+  own_does requests now old new does acts =
+      Leaves (_ ∷ []) (inl (same_found _ _ (ap (λ (s : ServerState S F D). at old.timer.port s.held) (server_is does))))
+      (trace_is does) (λ still. (tt, tt))
 
-  -- nothing was done, and the transfers are as they were
-  stays_living : (port : ℕ) (acts : ℕ → List Act) (held held' : List (ℕ × TransferState F D)) → held' ≡ held →
-      Living acts held → Living (at_port port (λ done. done) acts) held'
-  stays_living port acts held held' is h = search rules
+  -- what is noted there is no act of another
+  answered_apart : (q port : ℕ) (e : SocketEvent) (reply : Option Reply) (before : List SocketEvent) → port ≢ q →
+      IsNoActAt q e → (more : List SocketEvent) × (answered port reply (e ∷ before) ≡ more ++ before)
+      × AllByRecursion (IsNoActAt q) more
+  answered_apart q port e None before apart other = (e ∷ [], refl, (other, tt))
+  answered_apart q port e (Some reply) before apart other =
+      (Sent port reply.to reply.bytes ∷ e ∷ [], refl, (apart, (other, tt)))
 
-  -- or the file of one alone has changed
-  same_next : (port : ℕ) (acts : ℕ → List Act) (held held' : List (ℕ × TransferState F D))
-      (transfer next : TransferState F D) → at port held ≡ Some transfer → held' ≡ with_next port next held →
-      next.end ≡ transfer.end → Living acts held → Living (at_port port (λ done. done) acts) held'
-  same_next port acts held held' transfer next found is same h =
-      next_lives port acts (λ done. done) held held' transfer next found is h
-      (lives_same (acts port) transfer next same)
+  noted_apart : (q now : ℕ) (old new : PortState S F D) → PortStep stores sources now old new → old.timer.port ≢ q →
+      (more : List SocketEvent) × (new.events ≡ more ++ old.events) × AllByRecursion (IsNoActAt q) more
+  noted_apart q now old new (A_datagram d) apart =
+      rw d.handles.events (answered_apart q old.timer.port (Received old.timer.port d.from d.bytes)
+      d.handles.takes.takes.turn.reply old.events apart apart)
+  noted_apart q now old new (A_timeout d) apart =
+      rw d.times_out.events (answered_apart q old.timer.port (Elapsed old.timer.port now)
+      (timeout_turn d.times_out.times_out.transfer.end).reply old.events apart apart)
+  noted_apart q now old new (Work d) apart = ([], d.events, tt)
+  noted_apart q now old new does apart = (_ ∷ [], trace_is does, (search (rules, apart), tt))
 
-  -- a datagram that is lost while the transfer is open, or once it has closed
-  lost_lives : (b : Bool) (acts : List Act) (transfer next : TransferState F D) (from : Endpoint) (bytes : List ℕ) →
-      not (is_closed transfer) ≡ b → next.end ≡ transfer.end → Lives acts transfer →
-      Lives (if b then Lost from bytes ∷ acts else acts) next
-  lost_lives false acts transfer next from bytes o same h = lives_same acts transfer next same h
-  lost_lives true acts transfer next from bytes o same h =
-      record {
-        first = h.first;
-        begins = h.begins;
-        life =
-            subst (λ (e : EndState). Life sources (drafting_sink stores) h.first (Lost from bytes ∷ acts) e) (sym same)
-            (Loses h.life (not_not (is_closed transfer) o) from bytes);
-      }
-    where
-      not_not : (c : Bool) → not c ≡ true → c ≡ false
-      not_not true e = absurd (true≢false (sym e))
-      not_not false e = refl
-
-  abbrev losing : Option (TransferState F D) → Endpoint → List ℕ → List Act → List Act
-  losing o from bytes acts = if is_open o then Lost from bytes ∷ acts else acts
-
-  loses_living : (port : ℕ) (o : Option (TransferState F D)) (old new : ServerState S F D) (from : Endpoint)
-      (bytes : List ℕ) → at port old.held ≡ o → KeepsHeld stores sources port o old new → (acts : ℕ → List Act) →
-      Living acts old.held → Living (at_port port (losing o from bytes) acts) new.held
-  loses_living port None old new from bytes found keeps acts h =
-      stays_living port acts old.held new.held (ap (λ (s : ServerState S F D). s.held) keeps) h
-  loses_living port (Some transfer) old new from bytes found keeps acts h =
-      next_lives port acts (losing (Some transfer) from bytes) old.held new.held transfer keeps.0 found keeps.2 h
-      (lost_lives (not (is_closed transfer)) (acts port) transfer keeps.0 from bytes refl keeps.1.end)
-
-  -- one that comes once the transfer is over age
-  comes_late : (port : ℕ) (o : Option (TransferState F D)) (held held' : List (ℕ × TransferState F D))
-      (from : Endpoint) (bytes : List ℕ) → at port held ≡ o → held' ≡ held → (acts : ℕ → List Act) →
-      Living acts held → Living (at_port port (losing o from bytes) acts) held'
-  comes_late port o held held' from bytes found is acts h = record {
-    once = subst AreKeyedOnce (sym is) h.once;
-    all = λ q t there.
-        let was : at q held ≡ Some t = ap (at q) (sym is) ∙ there in
-        let before = h.all q t was in
-        elim (cases_eq port q) [
-          | inl same ↦
-              let o_is : Some t ≡ o = sym was ∙ (ap (λ (p : ℕ). at p held) (sym same) ∙ found) in
-              subst (λ (b : Bool). Lives (if b then losing o from bytes (acts q) else acts q) t)
-              (sym (eq-eqb port q same))
-              (subst (λ (u : Option (TransferState F D)). Lives (losing u from bytes (acts q)) t) o_is
-              (lost_lives (not (is_closed t)) (acts q) t t from bytes refl refl before))
-          | inr apart ↦
-              subst (λ (b : Bool). Lives (if b then losing o from bytes (acts q) else acts q) t)
-              (sym (ne_eqb port q apart)) before
-        ];
-  }
-
-  works_living : (port : ℕ) (o : Option (TransferState F D)) (old new : ServerState S F D) → at port old.held ≡ o →
-      WorksAt stores sources port o old new → (acts : ℕ → List Act) → Living acts old.held →
-      Living (at_port port (λ done. done) acts) new.held
-  works_living port None old new found works acts h =
-      stays_living port acts old.held new.held (ap (λ (s : ServerState S F D). s.held) works) h
-  works_living port (Some transfer) old new found works acts h =
-      same_next port acts old.held new.held transfer works.0 found works.2
-      (ap (λ (t : TransferState F D). t.end) works.1.rest) h
-
-  port_lives : (now : ℕ) (old new : PortState S F D) (does : PortStep stores sources now old new)
-      (acts : ℕ → List Act) → Living acts old.server.held →
-      Living (λ q. if old.timer.port == q then port_acts does (acts q) else acts q) new.server.held
-  port_lives now old new (A_datagram d) acts h =
-      let takes = d.handles.takes in
-      let transfer = takes.transfer in
-      let turn = takes.takes.turn in
-      let port = old.timer.port in
-      next_lives port acts (λ done. with_reply turn.reply (Took d.from d.bytes ∷ done))
-      old.server.held new.server.held transfer takes.next takes.found takes.held h
-      (hears_so (acts port) transfer takes.next takes.still d.from d.bytes turn _ _ takes.takes.steps takes.takes.carries.state)
-  port_lives now old new (A_lost_datagram d) acts h =
-      loses_living old.timer.port (at old.timer.port old.server.held) old.server new.server d.from d.bytes refl
-      d.loses.keeps acts h
-  port_lives now old new (A_late_datagram d) acts h =
-      comes_late old.timer.port (at old.timer.port old.server.held) old.server.held new.server.held d.from d.bytes refl
-      (ap (λ (s : ServerState S F D). s.held) d.server) acts h
-  port_lives now old new (A_timeout d) acts h =
-      let times_out = d.times_out.times_out in
-      let transfer = times_out.transfer in
-      let port = old.timer.port in
-      next_lives port acts (λ done. with_reply (timeout_turn transfer.end).reply (Timed ∷ done))
-      old.server.held new.server.held transfer (with_end times_out.end transfer) times_out.found times_out.held h
-      (times_so (acts port) transfer (with_end times_out.end transfer) times_out.still times_out.carries.state)
-  port_lives now old new (Work d) acts h =
-      works_living old.timer.port (at old.timer.port old.server.held) old.server new.server refl d.works.works acts h
-  port_lives now old new does acts h =
-      stays_living old.timer.port acts old.server.held new.server.held
-      (ap (λ (s : ServerState S F D). s.held) (server_is does)) h
+  port_does : (q requests now : ℕ) (old new : PortState S F D) (does : PortStep stores sources now old new)
+      (acts : List Act) → DoesAt q requests (at q old.server.held) (at q new.server.held) old.events new.events acts
+      (if old.timer.port == q then port_acts does acts else acts)
+  port_does q requests now old new does acts = elim (cases_eq old.timer.port q) [
+    | inl same ↦
+        rw (eq-eqb old.timer.port q same, ← same) (own_does requests now old new does acts)
+    | inr apart ↦
+        let noted = noted_apart q now old new does apart in
+        rw (ne_eqb old.timer.port q apart) (Leaves noted.0 (inl (same_found _ _
+        ((stays_at stores sources now old new does).held.others q (λ same. apart (sym same))))) noted.1 (λ still. noted.2))
+  ]
 
   -- ---- a transfer that opens
   may_agree : (agreed : List Known) → AreGranted agreed → MayAgree agreed
@@ -202,111 +179,185 @@ module _ {S F D : Type 0} (stores : StoreMeaning S D) (sources : SourceMeaning F
       To_serve_read (known ∷ others) peer mode measured retries [] (may_agree (known ∷ others) granted) fits (omega arith)
       is
 
+  sends_there : (agreed : List Known) (peer : Endpoint) (mode : Mode) (measured retries : ℕ) (piece : List ℕ) →
+      (serving_read agreed peer mode measured retries piece).position.last_sent_to ≡ peer
+  sends_there agreed peer mode measured retries piece = search rules
+
+  stores_there : (agreed : List Known) (peer : Endpoint) (mode : Mode) (retries : ℕ) →
+      (serving_write agreed peer mode retries).position.last_sent_to ≡ peer
+  stores_there agreed peer mode retries = search rules
+
   same_end : (transfer held : TransferState F D) (store other : S) →
       A_transfer transfer store ≡ A_transfer held other → transfer.end ≡ held.end
   same_end transfer held store other e = let same : transfer ≡ held = cc in ap (λ (t : TransferState F D). t.end) same
 
+  -- it begins, and its first datagram goes to the endpoint that asked
   opened_begins : (old : ServerState S F D) (from : Endpoint) (bytes : List ℕ) (decoded : Option Packet)
-      (repeated : Bool) (came : Came S F D) (transfer : TransferState F D) (store : S) →
-      came ≡ A_transfer transfer store → PortAnswers stores sources old from bytes decoded repeated came →
-      Begins transfer.end
-  opened_begins old from bytes decoded repeated came transfer store is (Silent none why) =
-      absurd (let e : A_transfer transfer store ≡ Nothing = sym is ∙ none in cc)
-  opened_begins old from bytes decoded repeated came transfer store is (Says_error refused) =
-      absurd (let e : A_transfer transfer store ≡ Error_reply refused.reply refused.store = sym is ∙ refused.is in cc)
-  opened_begins old from bytes decoded repeated came transfer store is (Begins_to_send path mode options asked o) =
-      read_begins o.agreed from mode o.measured old.config.retries o.piece transfer.end o.granted o.fits o.first
-      (same_end transfer _ store _ (sym is ∙ o.is))
-  opened_begins old from bytes decoded repeated came transfer store is (Begins_to_store path mode options asked o) =
-      To_serve_write o.agreed from mode old.config.retries (may_agree o.agreed o.granted)
-      (same_end transfer _ store _ (sym is ∙ o.is))
+      (repeated : Bool) (transfer : TransferState F D) (store : S) →
+      PortAnswers stores sources old from bytes decoded repeated (A_transfer transfer store) →
+      Begins transfer.end × (transfer.end.position.last_sent_to ≡ from)
+  opened_begins old from bytes decoded repeated transfer store (Silent none why) = absurd (cc)
+  opened_begins old from bytes decoded repeated transfer store (Says_error refused) = absurd (cc refused.is)
+  opened_begins old from bytes decoded repeated transfer store (Begins_to_send path mode options asked o) =
+      let is = same_end transfer _ store _ o.is in (
+        read_begins o.agreed from mode o.measured old.config.retries o.piece transfer.end o.granted o.fits o.first is,
+        ap (λ (e : EndState). e.position.last_sent_to) is ∙ sends_there o.agreed from mode o.measured _ o.piece,
+      )
+  opened_begins old from bytes decoded repeated transfer store (Begins_to_store path mode options asked o) =
+      let is = same_end transfer _ store _ o.is in (
+        To_serve_write o.agreed from mode old.config.retries (may_agree o.agreed o.granted) is,
+        ap (λ (e : EndState). e.position.last_sent_to) is ∙ stores_there o.agreed from mode _,
+      )
 
-  just_opened : (transfer : TransferState F D) → Begins transfer.end → Lives (newest transfer.end ∷ []) transfer
-  just_opened transfer begins =
-      record { first = transfer.end; begins = begins; life = Opens }
+  came_does : (q tid : ℕ) (s : LoopState S F D) (from : Endpoint) (bytes : List ℕ) (decoded : Option Packet)
+      (repeated : Bool) (came : Came S F D) → PortAnswers stores sources s.server from bytes decoded repeated came →
+      IfSome (left_by came s.server from tid).opened.tid (λ port. port ≢ s.requests) →
+      (is_open (at q s.server.held) ≡ true → q ≢ s.requests) → (acts : List Act) →
+      DoesAt q s.requests (at q s.server.held) (at q (left_by came s.server from tid).new.held) s.events
+      (after_request s from (left_by came s.server from tid)).events acts (first_act (came_if (tid == q) came) acts)
+  came_does q tid s from bytes decoded repeated Nothing answers own apart acts =
+      Leaves [] (inl (same_self (at q s.server.held))) refl (λ still. tt)
+  came_does q tid s from bytes decoded repeated (Error_reply reply store) answers own apart acts =
+      Leaves (_ ∷ []) (inl (same_self (at q s.server.held))) refl (λ still. ((λ same. apart still (sym same)), tt))
+  came_does q tid s from bytes decoded repeated (A_transfer transfer store) answers own apart acts =
+      elim (cases_eq tid q) [
+        | inl same ↦
+            let opens = opened_begins s.server from bytes decoded repeated transfer store answers in
+            rw (eq-eqb tid q same, ← same) (Opens_there transfer (lookup-insert_same numbers tid transfer s.server.held)
+            own opens.0 (rw opens.1))
+        | inr other ↦
+            rw (ne_eqb tid q other) (Leaves (Sent tid from transfer.end.position.last_sent ∷ []) (inl (same_found _ _
+            (lookup-insert_other numbers tid q transfer s.server.held (λ same. other (sym same))))) refl
+            (λ still. (other, tt)))
+      ]
 
-  came_lives : (old : ServerState S F D) (from : Endpoint) (tid : ℕ) (came : Came S F D) →
-      ((transfer : TransferState F D) (store : S) → came ≡ A_transfer transfer store → Begins transfer.end) →
-      at tid old.held ≡ None → (acts : ℕ → List Act) → Living acts old.held →
-      Living (λ q. first_act (came_if (tid == q) came) (acts q)) (left_by came old from tid).new.held
-  came_lives old from tid Nothing opens free acts h = h
-  came_lives old from tid (Error_reply reply store) opens free acts h = h
-  came_lives old from tid (A_transfer transfer store) opens free acts h = record {
-    once = once-with_new tid transfer old.held free h.once;
-    all = λ q t there. elim (at-with_new_cases tid q transfer t old.held there) [
-      | inl own ↦
-          subst (λ (b : Bool). Lives (first_act (came_if b (A_transfer transfer store)) (acts q)) t)
-          (sym (eq-eqb tid q (sym own.0))) (subst (λ (u : TransferState F D). Lives (newest transfer.end ∷ []) u) own.1
-          (just_opened transfer (opens transfer store refl)))
-      | inr other ↦
-          subst (λ (b : Bool). Lives (first_act (came_if b (A_transfer transfer store)) (acts q)) t)
-          (sym (ne_eqb tid q (λ e. other.0 (sym e)))) (h.all q t other.1)
-    ];
-  }
+  -- ---- each step
+  does_at : (q : ℕ) {start old new : LoopState S F D} (run : Run (LoopStep stores sources) start old)
+      (does : LoopStep stores sources old new) → IsBlockSize old.server.config.limits.max_block →
+      AreKeyedOnce old.server.held → (is_open (at q old.server.held) ≡ true → q ≢ old.requests) →
+      DoesAt q old.requests (at q old.server.held) (at q new.server.held) old.events new.events (acts_at q run)
+      (acts_at q (Then run does))
+  does_at q {old = old} run (At_port d) max once apart =
+      rw d.is (port_does q old.requests old.now (port_state old d.timer) d.next d.does (acts_at q run))
+  does_at q {old = old} run (Request_answered d) max once apart =
+      rw (d.is, d.steps.left) (came_does q d.tid old d.from d.bytes d.steps.decoded d.steps.repeated d.steps.came
+      (port_answers stores sources old.server d.from d.bytes max d.tid d.left d.steps) (rw d.steps.left at d.own) apart
+      (acts_at q run))
+  does_at q {old = old} run (Transfer_closed d) max once apart = rw d.is (Leaves (_ ∷ []) (gone (cases_eq q d.timer.port)) refl (λ still. (tt, tt))) where
+    gone : (q ≡ d.timer.port) ⊎ (q ≢ d.timer.port) →
+        HaveSameEnd (at q old.server.held) (at q (without d.timer.port old.server.held))
+        ⊎ (at q (without d.timer.port old.server.held) ≡ None)
+    gone (inl same) = inr (rw same (at-without d.timer.port old.server.held once))
+    gone (inr other) = inl (same_found _ _ (lookup-remove_other numbers d.timer.port q old.server.held other))
+  does_at q {old = old} run (Waited d) max once apart =
+      rw d.is (Leaves (_ ∷ _ ∷ _ ∷ []) (inl (same_self (at q old.server.held))) refl (λ still. (tt, (tt, (tt, tt)))))
+  does_at q {old = old} run (Request_lost d) max once apart =
+      rw d.is (Leaves [] (inl (same_self (at q old.server.held))) refl (λ still. tt))
+  does_at q {old = old} run (Store_set d) max once apart =
+      rw d.is (Leaves [] (inl (same_self (at q old.server.held))) refl (λ still. tt))
+  does_at q {old = old} run does max once apart =
+      let beside : is_open (at q old.server.held) ≡ true → old.requests ≢ q = λ still same. apart still (sym same) in
+      rw (state_is does)
+      (Leaves (_ ∷ []) (inl (same_self (at q old.server.held))) refl (λ still. (search (rules, beside still), tt)))
 
   -- ---- along a run
-  nothing_held : {P : Type 0} (held : List (ℕ × TransferState F D)) (port : ℕ) (transfer : TransferState F D) →
-      held ≡ [] → at port held ≡ Some transfer → P
-  nothing_held held port transfer none there = search rules
+  -- no port has two transfers
+  port_once : (now : ℕ) (old new : PortState S F D) → PortStep stores sources now old new →
+      AreKeyedOnce old.server.held → AreKeyedOnce new.server.held
+  port_once now old new does once = elim (port_held stores sources now old new does) [
+    | inl same ↦ rw same once
+    | inr other ↦ rw other.1 (once-with_next old.timer.port other.0 old.server.held once)
+  ]
 
-  held_same : (acts : ℕ → List Act) (s t u : LoopState S F D) → t ≡ u → u.server.held ≡ s.server.held →
-      Living acts s.server.held → Living acts t.server.held
-  held_same acts s t u is same h = search rules
+  came_once : (old : ServerState S F D) (from : Endpoint) (tid : ℕ) (came : Came S F D) → at tid old.held ≡ None →
+      AreKeyedOnce old.held → AreKeyedOnce (left_by came old from tid).new.held
+  came_once old from tid (A_transfer transfer store) free once = once-with_new tid transfer old.held free once
+  came_once old from tid Nothing free once = once
+  came_once old from tid (Error_reply reply store) free once = once
 
-  -- the configuration never changes
-  step_config : {old new : LoopState S F D} → LoopStep stores sources old new → new.server.config ≡ old.server.config
+  step_once : {old new : LoopState S F D} → LoopStep stores sources old new → AreKeyedOnce old.server.held →
+      AreKeyedOnce new.server.held
+  step_once {old} (At_port d) once = rw d.is (port_once old.now (port_state old d.timer) d.next d.does once)
+  step_once {old} (Request_answered d) once =
+      rw (d.is, d.steps.left) (came_once old.server d.from d.tid d.steps.came d.free once)
+  step_once {old} (Transfer_closed d) once = rw d.is (once-without d.timer.port old.server.held once)
+  step_once does once = rw (state_is does) once
+
+  pub keyed_once : {start now : LoopState S F D} (run : Run (LoopStep stores sources) start now) →
+      start.server.held ≡ [] → AreKeyedOnce now.server.held
+  keyed_once Start none = rw none tt
+  keyed_once (Then run does) none = step_once does (keyed_once run none)
+
+  -- the configuration and the request port never change
+  step_config : {old new : LoopState S F D} → LoopStep stores sources old new →
+      (new.server.config ≡ old.server.config) × (new.requests ≡ old.requests)
   step_config h0 = search rules
 
   module _ {start : LoopState S F D} where
-    abbrev LivingBy : {now : LoopState S F D} → Run (LoopStep stores sources) start now → Type 0
-    LivingBy {now} run = Living (λ q. acts_at q run) now.server.held
-
-    step_lives : {old new : LoopState S F D} (run : Run (LoopStep stores sources) start old)
-        (does : LoopStep stores sources old new) → IsBlockSize old.server.config.limits.max_block → LivingBy run →
-        LivingBy (Then run does)
-    step_lives {old} {new} run (At_port d) max h =
-        subst (λ (s : LoopState S F D).
-        Living (λ q. if d.timer.port == q then port_acts d.does (acts_at q run) else acts_at q run) s.server.held)
-        (sym d.is) (port_lives old.now (port_state old d.timer) d.next d.does (λ q. acts_at q run) h)
-    step_lives {old} {new} run (Request_answered d) max h =
-        subst (λ (s : LoopState S F D).
-        Living (λ q. first_act (came_if (d.tid == q) d.steps.came) (acts_at q run)) s.server.held) (sym d.is) (subst
-        (λ (left : Left S F D).
-        Living (λ q. first_act (came_if (d.tid == q) d.steps.came) (acts_at q run)) left.new.held) (sym d.steps.left)
-        (came_lives old.server d.from d.tid d.steps.came
-        (λ transfer store is. opened_begins old.server d.from d.bytes d.steps.decoded d.steps.repeated d.steps.came transfer
-        store is (port_answers stores sources old.server d.from d.bytes max d.tid d.left d.steps)) d.free
-        (λ q. acts_at q run) h))
-    step_lives {old} {new} run (Transfer_closed d) max h =
-        subst (λ (s : LoopState S F D). Living (λ q. acts_at q run) s.server.held) (sym d.is) (record {
-          once = once-without d.timer.port old.server.held h.once;
-          all = λ q t there. h.all q t (at-without_cases d.timer.port q t old.server.held h.once there).1;
-        })
-    step_lives {old} {new} run does max h = held_same (λ q. acts_at q run) old new _ (state_is does) refl h
-
     pub run_config : {now : LoopState S F D} → Run (LoopStep stores sources) start now →
         now.server.config ≡ start.server.config
     run_config Start = refl
-    run_config (Then run does) = step_config does ∙ run_config run
+    run_config (Then run does) = (step_config does).0 ∙ run_config run
 
-    run_lives : {now : LoopState S F D} (run : Run (LoopStep stores sources) start now) → start.server.held ≡ [] →
-        IsBlockSize start.server.config.limits.max_block → LivingBy run
-    run_lives Start none max = record {
-      once = subst AreKeyedOnce (sym none) tt;
-      all = λ q t there. nothing_held start.server.held q t none there;
+  module _ {q requests : ℕ} {was now : Option (TransferState F D)} {before after : List SocketEvent} {acts : List Act}
+    where
+      -- one that is open was open before, or opens at another port than that of the requests
+      pub open_before : {more : List Act} → DoesAt q requests was now before after acts more → is_open now ≡ true →
+          (is_open was ≡ true) ⊎ (q ≢ requests)
+      open_before (Leaves noted (inl same) is others) still = inl (same_open was now same still)
+      open_before (Leaves noted (inr none) is others) still = absurd (true≢false (sym (rw none at still)))
+      open_before (Acts transfer next e act reply there opened is_now event is lives) still =
+          inl (rw there (ap not opened))
+      open_before (Opens_there transfer is_now apart begins is) still = inr apart
+
+      lives_after : {more : List Act} → DoesAt q requests was now before after acts more →
+          ((transfer : TransferState F D) → was ≡ Some transfer → Lives acts transfer) → (next : TransferState F D) →
+          now ≡ Some next → Lives more next
+      lives_after (Leaves noted (inl same) is others) h next there = by_end was now same h there where
+        by_end : (o other : Option (TransferState F D)) → HaveSameEnd o other →
+            ((transfer : TransferState F D) → o ≡ Some transfer → Lives acts transfer) → other ≡ Some next → Lives acts next
+        by_end (Some t) (Some u) one lives there =
+            lives_on (lives t refl) (lives t refl).life (ap (λ (v : TransferState F D). v.end) (sym (same_Some u next there)) ∙ one)
+        by_end None None one lives there = absurd (cc)
+        by_end None (Some u) one lives there = absurd one
+        by_end (Some t) None one lives there = absurd one
+      lives_after (Leaves noted (inr none) is others) h next there = absurd (cc)
+      lives_after (Acts transfer other e act reply was_there opened is_now event is lives) h next there =
+          rw (same_Some next other (sym there ∙ is_now)) (lives (h transfer was_there))
+      lives_after (Opens_there transfer is_now apart begins is) h next there =
+          rw (same_Some next transfer (sym there ∙ is_now)) (record { first = transfer.end; begins = begins; life = Opens })
+
+  -- what holds of a port without a transfer, and still does after what a step does there, holds along a run
+  module _ {start : LoopState S F D} (none : start.server.held ≡ []) (max : IsBlockSize start.server.config.limits.max_block)
+      (q : ℕ) (P : Option (TransferState F D) → List SocketEvent → List Act → Type 0) (first : P None start.events [])
+      (step : (requests : ℕ) (was now : Option (TransferState F D)) (before after : List SocketEvent) (acts more : List Act) →
+      DoesAt q requests was now before after acts more → P was before acts → P now after more) where
+    record IsSoAt {now : LoopState S F D} (run : Run (LoopStep stores sources) start now) : Type 0 where
+      apart : is_open (at q now.server.held) ≡ true → q ≢ now.requests
+      holds : P (at q now.server.held) now.events (acts_at q run)
+
+    so_at : {now : LoopState S F D} (run : Run (LoopStep stores sources) start now) → IsSoAt run
+    so_at Start = record {
+      apart = λ still. absurd (true≢false (sym (rw none at still)));
+      holds = rw none first;
     }
-    run_lives (Then run does) none max =
-        step_lives run does
-        (subst (λ (c : Config). IsBlockSize c.limits.max_block) (sym (run_config run)) max) (run_lives run none max)
+    so_at (Then run does) =
+        let h = so_at run in
+        let d = does_at q run does (rw (run_config run) max) (keyed_once run none) h.apart in
+        record {
+          apart = λ still. rw (step_config does).1 (elim (open_before d still) [ inl was ↦ h.apart was | inr apart ↦ apart ]);
+          holds = step _ _ _ _ _ _ _ d h.holds;
+        }
 
-    -- so each transfer lives that is held at some time of a run
-    pub transfers_live : {now : LoopState S F D} (run : Run (LoopStep stores sources) start now) →
-        start.server.held ≡ [] → IsBlockSize start.server.config.limits.max_block → (port : ℕ)
-        (transfer : TransferState F D) → at port now.server.held ≡ Some transfer →
-        IsLiving stores sources (acts_at port run) transfer
-    transfers_live run none max port transfer there = (run_lives run none max).all port transfer there
+    pub along : {now : LoopState S F D} (run : Run (LoopStep stores sources) start now) →
+        P (at q now.server.held) now.events (acts_at q run)
+    along run = (so_at run).holds
 
-    -- and no port has two of them
-    pub keyed_once : {now : LoopState S F D} (run : Run (LoopStep stores sources) start now) →
-        start.server.held ≡ [] → IsBlockSize start.server.config.limits.max_block → AreKeyedOnce now.server.held
-    keyed_once run none max = (run_lives run none max).once
+  -- so each transfer lives that is held at some time of a run
+  pub transfers_live : {start now : LoopState S F D} (run : Run (LoopStep stores sources) start now) →
+      start.server.held ≡ [] → IsBlockSize start.server.config.limits.max_block → (port : ℕ)
+      (transfer : TransferState F D) → at port now.server.held ≡ Some transfer →
+      IsLiving stores sources (acts_at port run) transfer
+  transfers_live run none max port transfer there =
+      along none max port (λ o events acts. (t : TransferState F D) → o ≡ Some t → Lives acts t) (λ t e. absurd (cc))
+      (λ requests was now before after acts more. lives_after) run transfer there

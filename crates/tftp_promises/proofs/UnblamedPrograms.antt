@@ -1,18 +1,16 @@
 -- No end of the programs has blamed a peer that is no stranger where the traces arrive.
 -- For the law no_program_is_blamed.
-use Rattle.tftp_promises.proofs.Common.{List, ℕ, ◌≡◌, rules, sym, Endpoint, refl, [], ◌∙◌, ap, SourceMeaning, Some}
-use Rattle.tftp_promises.proofs.Common.{subst, inl, StoreMeaning, inr, ◌∷◌, SinkMeaning, ◌++◌, Programs, EndState}
-use Rattle.tftp_promises.proofs.Common.{arith, length, slice_get, TransferState, joined, ClientOf, client_at, same_Some}
-use Rattle.tftp_promises.proofs.Common.{suc, Mode, moved_in, cases_Bool, zero, ◌≤◌, all_of, Outcome, moved_at, Role}
-use Rattle.tftp_promises.proofs.Common.{opened_at, HasOpened, ArePortsFresh, IsUnblamed, ProgramEnd, IsEnd, wire_text}
-use Rattle.tftp_promises.proofs.Common.{heard_with, alone, number_of, take, length-append, MayCloseAs, NoneIsBlamed}
-use Rattle.tftp_promises.proofs.Common.{replicate}
+use Rattle.tftp_promises.proofs.Common.{List, ℕ, ◌≡◌, rules, sym, Endpoint, refl, [], ◌∙◌, ap, SourceMeaning, Some, inl}
+use Rattle.tftp_promises.proofs.Common.{StoreMeaning, inr, ◌∷◌, SinkMeaning, ◌++◌, Programs, EndState, arith, length}
+use Rattle.tftp_promises.proofs.Common.{slice_get, TransferState, joined, ClientOf, client_at, same_Some, suc, Mode}
+use Rattle.tftp_promises.proofs.Common.{moved_in, cases_Bool, zero, ◌≤◌, all_of, Outcome, moved_at, Role, opened_at}
+use Rattle.tftp_promises.proofs.Common.{HasOpened, ArePortsFresh, IsUnblamed, ProgramEnd, IsEnd, wire_text, take}
+use Rattle.tftp_promises.proofs.Common.{length-append, MayCloseAs, NoneIsBlamed, replicate}
 use Rattle.tftp_rules.proofs.HostBytes.{padded_text}
 use Rattle.tftp_rules.proofs.UnblamedEnds.{BlamesBy}
+use Rattle.tftp_promises.specs.Blamed.{BeginsFile, ProgramsAreUnblamed}
 use Rattle.tftp_ends.specs.declared.outcome.Outcome.TheVariants as outcomes
-use Rattle.tftp_promises.specs.Blamed.{BeginsFile, EachIsUnblamed, ProgramsAreUnblamed}
 use Rattle.tftp_promises.proofs.ClientTraces.{run_role}
-use Rattle.tftp_promises.proofs.EachAlone.{each_joined}
 use Rattle.tftp_promises.proofs.Invariant.{IsKept, SendsText, client_text, length_of, client_kept, stored_opened}
 use Rattle.tftp_promises.proofs.JointRuns.{traces_joint}
 use Rattle.tftp_promises.proofs.KeptFresh.{fresh_at_last, kept_at_last}
@@ -59,13 +57,9 @@ module _ {S F D G K : Type 0} {stores : StoreMeaning S D} {sources : SourceMeani
   unblamed : (x : ProgramEnd) → IsEnd programs x →
       IsUnblamed (joined programs) (SendsText programs 0) kept.messages x.state
   unblamed x (inl of) =
-      let h = client_kept kept of.0 of.1 of.2 in
-      subst (λ (e : EndState). IsUnblamed (joined programs) (SendsText programs 0) kept.messages e)
-      (h.state ∙ ap (λ (z : ProgramEnd). z.state) (sym of.3)) h.viewed.unblamed
+      let h = client_kept kept of.0 of.1 of.2 in rw (of.3, ← h.state) h.viewed.unblamed
   unblamed x (inr of) =
-      let h = kept.transfers of.0 of.1 of.2 of.3 in
-      subst (λ (e : EndState). IsUnblamed (joined programs) (SendsText programs 0) kept.messages e)
-      (h.state ∙ ap (λ (z : ProgramEnd). z.state) (sym of.4)) h.viewed.unblamed
+      let h = kept.transfers of.0 of.1 of.2 of.3 in rw (of.4, ← h.state) h.viewed.unblamed
 
   -- ---- what an end gave is the text of a file, if it begins that of one
   client_sends : (mode : Mode) (k : ℕ) (client : Client) → slice_get programs.clients k ≡ Some client →
@@ -110,12 +104,9 @@ module _ {S F D G K : Type 0} {stores : StoreMeaning S D} {sources : SourceMeani
   sends_text : (mode : Mode) (y : ProgramEnd) → IsEnd programs y →
       BeginsFile mode y.state.role.length y.moved.bytes → SendsText programs 0 y.address mode
   sends_text mode y (inl of) begins =
-      subst (λ (z : ProgramEnd). SendsText programs 0 z.address mode) (sym of.3) (client_sends mode of.0 of.1 of.2
-      (subst (λ (z : ProgramEnd). BeginsFile mode z.state.role.length z.moved.bytes) of.3 begins))
+      rw of.3 (client_sends mode of.0 of.1 of.2 (rw of.3 at begins))
   sends_text mode y (inr of) begins =
-      subst (λ (z : ProgramEnd). SendsText programs 0 z.address mode) (sym of.4)
-      (transfer_sends mode of.0 of.1 of.2 of.3
-      (subst (λ (z : ProgramEnd). BeginsFile mode z.state.role.length z.moved.bytes) of.4 begins))
+      rw of.4 (transfer_sends mode of.0 of.1 of.2 of.3 (rw of.4 at begins))
 
   -- so each end closes as it may
   closes_as : (x : ProgramEnd) (p : Endpoint) (outcome : Outcome) →
@@ -132,8 +123,3 @@ module _ {S F D G K : Type 0} (stores : StoreMeaning S D) (sources : SourceMeani
   pub programs_unblamed : ProgramsAreUnblamed stores sources inputs outputs
   programs_unblamed programs order joined =
       search (rules, none_blamed, kept_at_last, traces_joint, server_steps_keep)
-
-  pub each_unblamed : EachIsUnblamed stores sources inputs outputs
-  each_unblamed several order i server k client at_i found served =
-      programs_unblamed (alone several i server client) (heard_with i (number_of several k) order)
-      (each_joined stores sources inputs outputs several order i server k client at_i found served)

@@ -118,13 +118,17 @@ module _ {S F D G K : Type 0} (stores : StoreMeaning S D) (sources : SourceMeani
       → IsServed several order i server k client
       → AreJoined (alone several i server client) (heard_with i (number_of several k) order)
 
-  -- and keep the promises, over any files
-  abbrev pub EachKeepsAnyFiles : Type 0
-  EachKeepsAnyFiles =
+  -- this is so of a server and each client that it serves
+  abbrev pub OfEachServed : (Programs stores sources inputs outputs → Type 0) → Type 0
+  OfEachServed Holds =
       (several : Several stores sources inputs outputs) (order : List Noted)
       (i : ℕ) (server : OneServer several) (k : ℕ) (client : OneClient several)
       → slice_get several.servers i ≡ Some server → slice_get several.clients k ≡ Some client
-      → IsServed several order i server k client → KeepAnyFiles (alone several i server client)
+      → IsServed several order i server k client → Holds (alone several i server client)
+
+  -- they keep the promises, over any files
+  abbrev pub EachKeepsAnyFiles : Type 0
+  EachKeepsAnyFiles = OfEachServed KeepAnyFiles
 
   -- a client takes no server's answer, or the answers of one port: those of the server that has the
   -- port for it. So its own trace and those of the servers decide which one serves it

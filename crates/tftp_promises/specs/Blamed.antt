@@ -1,16 +1,14 @@
 -- How an end of the programs closes whose peer is no stranger: never because of what that peer
 -- sent, except where a file was no netascii.
-use Rattle.std.specs.Prelude.{ℕ, ◌≡◌, List, Some, slice_get, true, length}
+use Rattle.std.specs.Prelude.{ℕ, ◌≡◌, List, Some, true, length, ⊤}
 use Rattle.tftp_promises.specs.Common.{SourceMeaning, StoreMeaning, Endpoint, SinkMeaning}
 use Rattle.tftp_promises.specs.Common.{is_sender, Mode, record_of, Outcome, wire_text}
-use Rattle.std.specs.Prelude.{⊤}
 use Rattle.tftp_file.specs.Block.{IsPrefixOf}
 use Rattle.tftp_ends.specs.declared.outcome.Outcome.TheVariants as outcomes
-use Rattle.tftp_promises.specs.Alone.{IsServed, alone}
+use Rattle.tftp_promises.specs.Alone.{OfEachServed}
 use Rattle.tftp_promises.specs.AnyFiles.{IsEnd, IsOurs, ProgramEnd, peer_of}
-use Rattle.tftp_promises.specs.Joined.{AreJoined}
-use Rattle.tftp_promises.specs.Order.{Noted, Programs}
-use Rattle.tftp_promises.specs.Several.{OneClient, OneServer, Several}
+use Rattle.tftp_promises.specs.Joined.{OfJoined}
+use Rattle.tftp_promises.specs.Order.{Programs}
 
 -- the bytes begin what a file in this mode, of this length on the wire, is sent as
 pub record BeginsFile (mode : Mode) (long : ℕ) (bytes : List ℕ) : Type 0 where
@@ -34,9 +32,7 @@ module _ {S F D G K : Type 0} {stores : StoreMeaning S D} {sources : SourceMeani
   MayCloseAs x p outcomes.NotNetascii =
       (y : ProgramEnd) → IsEnd programs y → y.address ≡ p
       → BeginsFile x.state.role.mode y.state.role.length y.moved.bytes → ⊥
-  MayCloseAs x p outcomes.Illegal = ⊥
-  MayCloseAs x p outcomes.TooLarge = ⊥
-  MayCloseAs x p (outcomes.Refused refusal) = ⊥
+  MayCloseAs x p outcome = ⊥
 
   -- every end whose peer is no stranger closes so, and as nothing else
   abbrev pub NoneIsBlamed : Type 0
@@ -49,14 +45,8 @@ module _ {S F D G K : Type 0} (stores : StoreMeaning S D) (sources : SourceMeani
     (inputs : SourceMeaning G) (outputs : SinkMeaning K) where
   -- of a server and its clients
   abbrev pub ProgramsAreUnblamed : Type 0
-  ProgramsAreUnblamed =
-      (programs : Programs stores sources inputs outputs) (order : List Noted)
-      → AreJoined programs order → NoneIsBlamed programs
+  ProgramsAreUnblamed = OfJoined stores sources inputs outputs NoneIsBlamed
 
   -- of each of several servers and a client that takes its answer
   abbrev pub EachIsUnblamed : Type 0
-  EachIsUnblamed =
-      (several : Several stores sources inputs outputs) (order : List Noted)
-      (i : ℕ) (server : OneServer several) (k : ℕ) (client : OneClient several)
-      → slice_get several.servers i ≡ Some server → slice_get several.clients k ≡ Some client
-      → IsServed several order i server k client → NoneIsBlamed (alone several i server client)
+  EachIsUnblamed = OfEachServed stores sources inputs outputs NoneIsBlamed

@@ -17,8 +17,8 @@ line_printed line s = record s { events = Printed line ∷ s.events }
 pub data ClientDoes {G K : Type 0} (inputs : SourceMeaning G) (outputs : SinkMeaning K) (port : ℕ)
     (s : State) (files : Files G K) : State → Files G K → Type 0 where
   -- a datagram was received
-  Receives_one : {next : State} {files' : Files G K} {from : Endpoint} {bytes : List ℕ} {watch : Watch}
-      → MayWait s → IsReadBy s watch
+  Receives_one : {next : State} {files' : Files G K} {from : Endpoint} {bytes : List ℕ}
+      {watch : Watch} → MayWait s → IsReadBy s watch
       → HandlesReceived inputs outputs port from bytes (received port from bytes watch s) files next
       files'
       → ClientDoes inputs outputs port s files next files'
@@ -43,11 +43,7 @@ abbrev pub client_moves : {G K : Type 0} {inputs : SourceMeaning G} {outputs : S
     {port : ℕ} {s s' : State} {files files' : Files G K}
     → ClientDoes inputs outputs port s files s' files' → Moved → Moved
 client_moves (Receives_one may later handles) moved = handling_moves handles moved
-client_moves (Reads_clock progress later) moved = moved
-client_moves (Waits_until may event later) moved = moved
-client_moves (Times_out elapses) moved = moved
-client_moves (File_works works) moved = moved
-client_moves (Prints_line line) moved = moved
+client_moves does moved = moved
 
 -- a client reaches this state from its first by such steps
 pub data ClientRun {G K : Type 0} (inputs : SourceMeaning G) (outputs : SinkMeaning K) (port : ℕ)
@@ -71,8 +67,8 @@ module _ {G K : Type 0} (inputs : SourceMeaning G) (outputs : SinkMeaning K) whe
   pub record IsOneRun (backoff : Backoff) (port : ℕ) (end : EndState) (before : List SocketEvent)
       (s : State) (files : Files G K) (runs : Runs inputs outputs backoff port end before s files)
       : Type 0 where
-    pub runs_so : ClientRun inputs outputs port (begun backoff port runs.reading end before) runs.file
-        s files
+    pub runs_so : ClientRun inputs outputs port (begun backoff port runs.reading end before)
+        runs.file s files
     pub stays_so : (line : List ℕ) (after : List SocketEvent)
         → Dallies inputs outputs port (printed line s) files after
         → (last : State) × (files' : Files G K)

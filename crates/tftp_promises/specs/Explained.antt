@@ -1,17 +1,16 @@
 -- Why a client is not complete: its file or its store failed or is too long, an ERROR came, or all
 -- copies of one datagram, or all answers to them, were lost (RFC 1350, sections 2 and 7).
-use Rattle.std.specs.Prelude.{ℕ, ◌≡◌, List, Some, slice_get, ◌⊎◌, true, false, None}
+use Rattle.std.specs.Prelude.{ℕ, ◌≡◌, Some, slice_get, ◌⊎◌, true, false, None}
 use Rattle.tftp_promises.specs.Common.{SourceMeaning, StoreMeaning, Endpoint, SinkMeaning}
 use Rattle.tftp_promises.specs.Common.{is_complete, is_sender, IsOver, IsOpen}
-use Rattle.tftp_promises.specs.Alone.{IsServed, alone}
+use Rattle.tftp_promises.specs.Alone.{OfEachServed}
 use Rattle.tftp_promises.specs.AnyFiles.{client_end, peer_of}
 use Rattle.tftp_promises.specs.Failed.{HasFailed}
 use Rattle.tftp_promises.specs.Fates.{WasReceived, WasSettled}
 use Rattle.tftp_promises.specs.GivesUp.{GaveUpUnheard, IsSeenUnanswered}
-use Rattle.tftp_promises.specs.Joined.{AreJoined}
-use Rattle.tftp_promises.specs.Order.{Noted, Programs, ClientOf}
+use Rattle.tftp_promises.specs.Joined.{OfJoined}
+use Rattle.tftp_promises.specs.Order.{Programs, ClientOf}
 use Rattle.tftp_promises.specs.Programs.{client_at}
-use Rattle.tftp_promises.specs.Several.{OneClient, OneServer, Several}
 use Rattle.tftp_promises.specs.TooLong.{IsTooLong}
 
 module _ {S F D G K : Type 0} {stores : StoreMeaning S D} {sources : SourceMeaning F}
@@ -62,14 +61,8 @@ module _ {S F D G K : Type 0} (stores : StoreMeaning S D) (sources : SourceMeani
     (inputs : SourceMeaning G) (outputs : SinkMeaning K) where
   -- of a server and its clients
   abbrev pub ProgramsAreExplained : Type 0
-  ProgramsAreExplained =
-      (programs : Programs stores sources inputs outputs) (order : List Noted)
-      → AreJoined programs order → EachIsExplained programs
+  ProgramsAreExplained = OfJoined stores sources inputs outputs EachIsExplained
 
   -- of each of several servers and a client that takes its answer
   abbrev pub SeveralAreExplained : Type 0
-  SeveralAreExplained =
-      (several : Several stores sources inputs outputs) (order : List Noted)
-      (i : ℕ) (server : OneServer several) (k : ℕ) (client : OneClient several)
-      → slice_get several.servers i ≡ Some server → slice_get several.clients k ≡ Some client
-      → IsServed several order i server k client → EachIsExplained (alone several i server client)
+  SeveralAreExplained = OfEachServed stores sources inputs outputs EachIsExplained

@@ -9,30 +9,17 @@ IsFailure (outcomes.PeerError code) = Unit {0}
 IsFailure outcomes.StoreFault = Unit {0}
 IsFailure outcomes.SourceFault = Unit {0}
 IsFailure outcomes.NotNetascii = Unit {0}
-IsFailure outcomes.Complete = ⊥
-IsFailure outcomes.TimedOut = ⊥
-IsFailure outcomes.Illegal = ⊥
-IsFailure outcomes.TooLarge = ⊥
-IsFailure (outcomes.Refused refusal) = ⊥
+IsFailure outcome = ⊥
 
 -- an outcome for an answer that an end cannot accept
 abbrev pub IsRefusal : Outcome → Type 0
 IsRefusal outcomes.Illegal = Unit {0}
 IsRefusal outcomes.TooLarge = Unit {0}
 IsRefusal (outcomes.Refused refusal) = Unit {0}
-IsRefusal (outcomes.PeerError code) = ⊥
-IsRefusal outcomes.StoreFault = ⊥
-IsRefusal outcomes.SourceFault = ⊥
-IsRefusal outcomes.NotNetascii = ⊥
-IsRefusal outcomes.Complete = ⊥
-IsRefusal outcomes.TimedOut = ⊥
+IsRefusal outcome = ⊥
 
--- the end closed, incomplete, with such an outcome
-abbrev pub ClosedWith : (Outcome → Type 0) → EndState → Type 0
-ClosedWith Is e =
-    (is_complete e.position.phase ≡ false)
-    × (outcome : Outcome) × (outcome_of e.position.phase ≡ Some outcome) × Is outcome
-
--- an end has failed
+-- an end has failed: it closed, incomplete, with the outcome of a failure
 abbrev pub HasFailed : EndState → Type 0
-HasFailed e = ClosedWith IsFailure e
+HasFailed e =
+    (is_complete e.position.phase ≡ false)
+    × (outcome : Outcome) × (outcome_of e.position.phase ≡ Some outcome) × IsFailure outcome

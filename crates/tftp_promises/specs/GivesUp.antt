@@ -4,9 +4,8 @@ use Rattle.std.specs.Prelude.{ℕ, ◌≡◌, List, Some, [], slice_get, ◌⊎�
 use Rattle.std.specs.Prelude.{if◌then◌else◌, ◌==◌, ◌+◌, ◌≤◌}
 use Rattle.tftp_promises.specs.Common.{SourceMeaning, StoreMeaning, Endpoint, SinkMeaning, LoopStep}
 use Rattle.tftp_promises.specs.Common.{LoopState, SocketEvent, Run, Sent, is_complete, Received}
-use Rattle.tftp_promises.specs.Common.{TransferState, Elapsed, Printed, outcome_of, at, Quiet}
-use Rattle.tftp_promises.specs.Common.{Watched, Took, Spells, Lost, IsOver, is_open, Packet}
-use Rattle.tftp_promises.specs.Common.{canonical}
+use Rattle.tftp_promises.specs.Common.{TransferState, Elapsed, outcome_of, at, Took, Spells, Lost}
+use Rattle.tftp_promises.specs.Common.{IsOver, is_open, Packet, canonical}
 use Rattle.tftp_ends.specs.Action.{same_address}
 use Rattle.tftp_lives.specs.Lives.{Has, HasCopies}
 use Rattle.tftp_lives.specs.Unanswered.{Awaits, HasSaid, IsUnanswered, IsUnheard}
@@ -21,11 +20,7 @@ use Rattle.tftp_promises.specs.Programs.{client_at}
 abbrev pub elapsed : ℕ → List SocketEvent → ℕ
 elapsed port [] = 0
 elapsed port (Elapsed own time ∷ events) = (if own == port then 1 else 0) + elapsed port events
-elapsed port (Received own from bytes ∷ events) = elapsed port events
-elapsed port (Sent own to bytes ∷ events) = elapsed port events
-elapsed port (Watched watch ∷ events) = elapsed port events
-elapsed port (Printed line ∷ events) = elapsed port events
-elapsed port (Quiet event ∷ events) = elapsed port events
+elapsed port (event ∷ events) = elapsed port events
 
 module _ {S F D G K : Type 0} {stores : StoreMeaning S D} {sources : SourceMeaning F}
     {inputs : SourceMeaning G} {outputs : SinkMeaning K}
@@ -116,7 +111,8 @@ module _ {S F D G K : Type 0} (stores : StoreMeaning S D) (sources : SourceMeani
   abbrev pub TransfersGiveUpUnanswered : Type 0
   TransfersGiveUpUnanswered =
       (programs : Programs stores sources inputs outputs) (client : ClientOf programs)
-      (p : Endpoint) (serves : ServesClient programs p client) (was : WasHeld programs serves.port serves.transfer)
+      (p : Endpoint) (serves : ServesClient programs p client)
+      (was : WasHeld programs serves.port serves.transfer)
       (living : IsLiving stores sources (acts_at serves.port was.run) serves.transfer)
       → peer_of (client_end programs client) ≡ Some p
       → outcome_of serves.transfer.end.position.phase ≡ Some outcomes.TimedOut

@@ -28,8 +28,12 @@ module _ {S F D G K : Type 0} (stores : StoreMeaning S D) (sources : SourceMeani
       → programs.others ≡ [] → IsOrder programs order → IsHonest programs order
       → ArePortsFresh programs → AreJoined programs order
 
+  -- this is so of all programs that are joined
+  abbrev pub OfJoined : (Programs stores sources inputs outputs → Type 0) → Type 0
+  OfJoined Holds =
+      (programs : Programs stores sources inputs outputs) (order : List Noted)
+      → AreJoined programs order → Holds programs
+
   -- over any files: what a receiver handed to its file is what its peer's file gave
   abbrev pub ProgramsKeepAnyFiles : Type 0
-  ProgramsKeepAnyFiles =
-      (programs : Programs stores sources inputs outputs) (order : List Noted)
-      → AreJoined programs order → KeepAnyFiles programs
+  ProgramsKeepAnyFiles = OfJoined KeepAnyFiles

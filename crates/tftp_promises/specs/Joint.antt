@@ -4,9 +4,9 @@ use Rattle.std.specs.List.{Contains}
 use Rattle.std.specs.Prelude.{ℕ, ◌≡◌, List, Some, slice_get, ◌⊎◌, ◌++◌}
 use Rattle.tftp_promises.specs.Common.{SourceMeaning, StoreMeaning, Endpoint, SinkMeaning, LoopStep}
 use Rattle.tftp_promises.specs.Common.{LoopState, SocketEvent, Sent, Received, State, Files}
-use Rattle.tftp_promises.specs.Joined.{AreJoined}
+use Rattle.tftp_promises.specs.Joined.{OfJoined}
 use Rattle.tftp_promises.specs.Moved.{Moved}
-use Rattle.tftp_promises.specs.Order.{Noted, Programs, MayCome, ClientOf}
+use Rattle.tftp_promises.specs.Order.{Programs, MayCome, ClientOf}
 use Rattle.tftp_promises.specs.Others.{DoesOwn}
 use Rattle.tftp_promises.specs.Programs.{endpoint}
 use Rattle.tftp_promises.specs.ClientRuns.{ClientDoes, client_moves}
@@ -75,6 +75,4 @@ module _ {S F D G K : Type 0} (stores : StoreMeaning S D) (sources : SourceMeani
     (inputs : SourceMeaning G) (outputs : SinkMeaning K) where
   -- a joint run leads to the end state of the programs
   abbrev pub TracesAreJoint : Type 0
-  TracesAreJoint =
-      (programs : Programs stores sources inputs outputs) (order : List Noted)
-      → AreJoined programs order → Joint (all_of programs)
+  TracesAreJoint = OfJoined stores sources inputs outputs (λ programs. Joint (all_of programs))

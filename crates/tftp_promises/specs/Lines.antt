@@ -22,8 +22,8 @@ module _ {S F D : Type 0} {stores : StoreMeaning S D} {sources : SourceMeaning F
   close_lines does = []
 
   -- the line of each transfer that a run removed, the newest first
-  abbrev pub closed_lines : {first last : LoopState S F D} → Run (LoopStep stores sources) first last
-      → List (List ℕ)
+  abbrev pub closed_lines : {first last : LoopState S F D}
+      → Run (LoopStep stores sources) first last → List (List ℕ)
   closed_lines Start = []
   closed_lines (Then run does) = close_lines does ++ closed_lines run
 

@@ -4,10 +4,9 @@ use Rattle.std.specs.Prelude.{ℕ, ◌≡◌, List, Some, [], ◌∷◌, true, �
 use Rattle.std.specs.Prelude.{◌==◌, ◌≢◌, Option}
 use Rattle.tftp_promises.specs.Common.{SourceMeaning, StoreMeaning, Endpoint, SinkMeaning, LoopStep}
 use Rattle.tftp_promises.specs.Common.{LoopState, SocketEvent, Run, EndState, Sent, Then, Start}
-use Rattle.tftp_promises.specs.Common.{Received, TransferState, State, Files, Elapsed, Printed, at}
-use Rattle.tftp_promises.specs.Common.{Quiet, Watched, Took, Said, Timed, Lost, HandlesReceived}
-use Rattle.tftp_promises.specs.Common.{MayElapse, Answers, Act, PortStep, Loses, PortState, is_open}
-use Rattle.tftp_promises.specs.Common.{drafting_sink}
+use Rattle.tftp_promises.specs.Common.{Received, TransferState, State, Files, Elapsed, at, Took}
+use Rattle.tftp_promises.specs.Common.{Said, Timed, Lost, HandlesReceived, MayElapse, Answers, Act}
+use Rattle.tftp_promises.specs.Common.{PortStep, Loses, PortState, is_open, drafting_sink}
 use Rattle.tftp_ends.specs.Step.{timeout_turn}
 use Rattle.tftp_lives.specs.Lives.{Life, newest, with_reply}
 use Rattle.tftp_lives.specs.Unanswered.{Begins}
@@ -87,9 +86,7 @@ abbrev pub IsNoActAt : ℕ → SocketEvent → Type 0
 IsNoActAt port (Received own from bytes) = own ≢ port
 IsNoActAt port (Sent own to bytes) = own ≢ port
 IsNoActAt port (Elapsed own time) = own ≢ port
-IsNoActAt port (Watched watch) = Unit {0}
-IsNoActAt port (Printed line) = Unit {0}
-IsNoActAt port (Quiet event) = Unit {0}
+IsNoActAt port event = Unit {0}
 
 -- the acts are just the events of this port, in their order
 pub data Tells (port : ℕ) : List SocketEvent → List Act → Type 0 where

@@ -1,10 +1,9 @@
 -- What moved between the file of a server's end and its datagrams, by the run of the server; and of
 -- a client's, as `tftp_client` has it.
 use Rattle.std.specs.Prelude.{ℕ, List, Some, [], false, None, if◌then◌else◌, Bool, ◌==◌, Option}
-use Rattle.tftp_promises.specs.Common.{SourceMeaning, StoreMeaning, EndState, TransferState}
-use Rattle.tftp_promises.specs.Common.{PortStep, PortState, drafting_sink, Error_reply, Nothing}
-use Rattle.tftp_promises.specs.Common.{A_transfer}
 use Rattle.std.specs.Prelude.{drop}
+use Rattle.tftp_promises.specs.Common.{SourceMeaning, StoreMeaning, EndState, TransferState}
+use Rattle.tftp_promises.specs.Common.{PortStep, PortState, drafting_sink, A_transfer}
 use Rattle.tftp_ends.specs.End.{number_of}
 use Rattle.tftp_server.specs.Draft.{files_in}
 use Rattle.tftp_server.specs.Request.{Came}
@@ -27,9 +26,8 @@ first_moved e =
 module _ {S F D : Type 0} where
   -- the transfer that opened, if this is its place
   abbrev pub came_if : Bool → Came S F D → Option (TransferState F D)
-  came_if here Nothing = None
-  came_if here (Error_reply reply store) = None
   came_if here (A_transfer held store) = if here then Some held else None
+  came_if here came = None
 
 module _ {F D : Type 0} where
   -- the last of both

@@ -54,14 +54,14 @@ module _ {S F D G K : Type 0} {stores : StoreMeaning S D} {sources : SourceMeani
       (came_if (answers.tid == port) answers.steps.came)
   placed_at port run does = None
 
-  abbrev pub place_at : ℕ → {first last : LoopState S F D} → Run (LoopStep stores sources) first last
-      → Endpoint
+  abbrev pub place_at : ℕ → {first last : LoopState S F D}
+      → Run (LoopStep stores sources) first last → Endpoint
   place_at port Start = endpoint programs.ip port
   place_at port (Then run does) = or_place (placed_at port run does) (place_at port run)
 
   -- a step of the run removed this transfer, which had closed and was at this place
-  abbrev pub HasClosed : {first last : LoopState S F D} → Run (LoopStep stores sources) first last → ℕ
-      → TransferState F D → Endpoint → Type 0
+  abbrev pub HasClosed : {first last : LoopState S F D} → Run (LoopStep stores sources) first last
+      → ℕ → TransferState F D → Endpoint → Type 0
   HasClosed Start port transfer a = ⊥
   HasClosed (Then run does) port transfer a =
       (Removes does port transfer × (a ≡ place_at port run)) ⊎ HasClosed run port transfer a

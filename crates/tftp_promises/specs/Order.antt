@@ -3,8 +3,7 @@ use Rattle.std.specs.List.{Contains}
 use Rattle.std.specs.Prelude.{ℕ, ◌≡◌, List, Some, [], slice_get, ◌⊎◌, ◌∷◌, if◌then◌else◌, ◌==◌, map}
 use Rattle.std.specs.Prelude.{◌≢◌, suc}
 use Rattle.tftp_promises.specs.Common.{SourceMeaning, StoreMeaning, Endpoint, SinkMeaning}
-use Rattle.tftp_promises.specs.Common.{SocketEvent, Sent, Received, Elapsed, Printed, Quiet}
-use Rattle.tftp_promises.specs.Common.{Watched, Spells}
+use Rattle.tftp_promises.specs.Common.{SocketEvent, Sent, Received, Spells}
 use Rattle.tftp_wire.specs.declared.packet.Packet.TheVariants.{Error}
 use Rattle.tftp_promises.specs.Programs.{endpoint, ServerProgram, ClientProgram, client_at}
 
@@ -53,11 +52,7 @@ module _ (ips : List (List ℕ)) where
     CanComeOf program (Received port from bytes) earlier =
         (to : Endpoint) × IsAtOf program port to
         × (WasSentOf earlier from to bytes ⊎ (Strange from ⊎ IsError bytes))
-    CanComeOf program (Sent port to bytes) earlier = Unit {0}
-    CanComeOf program (Watched watch) earlier = Unit {0}
-    CanComeOf program (Elapsed port time) earlier = Unit {0}
-    CanComeOf program (Printed line) earlier = Unit {0}
-    CanComeOf program (Quiet event) earlier = Unit {0}
+    CanComeOf program event earlier = Unit {0}
 
     -- an honest network: each datagram that was received was sent to that endpoint before, from the
     -- endpoint that it bears; it may arrive any number of times, in any order, or never. Those of

@@ -11,8 +11,8 @@ module _ {S F D : Type 0} {stores : StoreMeaning S D} {sources : SourceMeaning F
   opened_by does = []
 
   -- the ports of all transfers that a run opened
-  abbrev pub opened_ports : {first last : LoopState S F D} → Run (LoopStep stores sources) first last
-      → List ℕ
+  abbrev pub opened_ports : {first last : LoopState S F D}
+      → Run (LoopStep stores sources) first last → List ℕ
   opened_ports Start = []
   opened_ports (Then run does) = opened_by does ++ opened_ports run
 

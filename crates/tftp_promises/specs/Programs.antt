@@ -105,7 +105,8 @@ module _ {G K : Type 0} (inputs : SourceMeaning G) (outputs : SinkMeaning K) (to
     pub files : Files G K
     -- its file before the run
     pub file : Files G K
-    pub runs : ClientRun inputs outputs port (begun backoff port reading first before) file last files
+    pub runs : ClientRun inputs outputs port (begun backoff port reading first before) file last
+        files
     pub opens : ClientOpens first file
     -- the events of the run, the newest first
     pub noted : List SocketEvent

@@ -26,7 +26,8 @@ module _ {G K : Type 0} {inputs : SourceMeaning G} {outputs : SinkMeaning K} whe
   -- a client that has sent its request, and no more
   abbrev pub just_asked : {to : Endpoint} → ClientProgram inputs outputs to → ClientStage G K
   just_asked client =
-      Has_asked (begun client.backoff client.port client.reading client.first client.before) client.file
+      Has_asked (begun client.backoff client.port client.reading client.first client.before)
+      client.file
       (Sent client.port client.first.position.last_sent_to client.first.position.last_sent ∷ [])
       nothing_moved
 

@@ -29,5 +29,6 @@ module _ {S F D : Type 0} where
   EachHasOneTimer stores sources =
       (config : LoopConfig) (port reading : ℕ) (first : ServerState S F D)
       (before : List SocketEvent) (now : LoopState S F D)
-      → first.held ≡ [] → Run (LoopStep stores sources) (at_start config port first reading before) now
+      → first.held ≡ []
+      → Run (LoopStep stores sources) (at_start config port first reading before) now
       → HasOneTimerEach now

@@ -1,11 +1,8 @@
 -- What a client notes: its request first, and then only events of its own port, waits, and lines.
 use Rattle.std.specs.Prelude.{ℕ, ◌≡◌, List, [], ◌∷◌, ◌++◌}
 use Rattle.tftp_promises.specs.Common.{SourceMeaning, Endpoint, SinkMeaning, SocketEvent, Sent}
-use Rattle.tftp_promises.specs.Common.{Received, Elapsed, Printed, Quiet, Watched, Empty}
-use Rattle.tftp_promises.specs.Common.{QuietEvent, Failed, Slept}
+use Rattle.tftp_promises.specs.Common.{Received, Elapsed, Quiet, Empty, QuietEvent, Failed, Slept}
 use Rattle.std.specs.List.{AllByRecursion}
-use Rattle.tftp_sockets.specs.Trace.QuietEvent.{New_socket, No_socket, Out_of_memory, No_reader}
-use Rattle.tftp_sockets.specs.Trace.QuietEvent.{Drain_signalled, Woke}
 use Rattle.tftp_promises.specs.Programs.{ClientProgram}
 
 -- a receive at this port without a datagram, or the begin of a wait; a client's waits report none,
@@ -14,21 +11,15 @@ abbrev pub IsQuietAt : ℕ → QuietEvent → Type 0
 IsQuietAt port (Empty at) = at ≡ port
 IsQuietAt port (Failed at) = at ≡ port
 IsQuietAt port (Slept millis) = Unit {0}
-IsQuietAt port (Woke ports) = ⊥
-IsQuietAt port (No_socket at) = ⊥
-IsQuietAt port (New_socket at) = ⊥
-IsQuietAt port Out_of_memory = ⊥
-IsQuietAt port No_reader = ⊥
-IsQuietAt port Drain_signalled = ⊥
+IsQuietAt port event = ⊥
 
 -- a datagram, a receive or a timeout of this port, a wait, a reading of the clock, or a line
 abbrev pub IsOfPort : ℕ → SocketEvent → Type 0
 IsOfPort port (Received at from bytes) = at ≡ port
 IsOfPort port (Sent at to bytes) = at ≡ port
-IsOfPort port (Watched watch) = Unit {0}
 IsOfPort port (Elapsed at time) = at ≡ port
-IsOfPort port (Printed line) = Unit {0}
 IsOfPort port (Quiet event) = IsQuietAt port event
+IsOfPort port event = Unit {0}
 
 -- a client sends its request to the server, and then notes only events of its port, waits, and
 -- lines

@@ -1,6 +1,6 @@
--- An exchange of programs in which a datagram is lost, over files in memory, that the premises of the
--- law on bounded loss admit: a client reads a file of one block, in blocks of 8 bytes, by an OACK (RFC
--- 1350, sections 2 and 6; RFC 2347).
+-- An exchange of programs in which a datagram is lost, over files in memory, that the premises of
+-- the law on bounded loss admit: a client reads a file of one block, in blocks of 8 bytes, by an
+-- OACK (RFC 1350, sections 2 and 6; RFC 2347).
 use Rattle.std.specs.Prelude.{ℕ, ◌≡◌, List, Some, [], slice_get, ◌∷◌, true, false, None}
 use Rattle.tftp_promises.specs.Common.{Endpoint, Sent, is_complete, Received, Elapsed, Quiet}
 use Rattle.tftp_promises.specs.Common.{Watched, Took, Known, Said, Timed, Sink, Empty, Watch}
@@ -61,8 +61,8 @@ abbrev pub exchange : List Noted
 exchange =
     (1, Sent 5000 requests read_request)
     ∷ (0, Received 69 reader read_request) ∷ (0, Sent 1024 reader (oack_bytes agreed))
-    ∷ (1, Quiet (Slept 1000)) ∷ (1, Received 5000 read_port (oack_bytes agreed)) ∷ (1, Watched (read_at 10))
-    ∷ (1, Sent 5000 read_port (ack_bytes 0))
+    ∷ (1, Quiet (Slept 1000)) ∷ (1, Received 5000 read_port (oack_bytes agreed))
+    ∷ (1, Watched (read_at 10)) ∷ (1, Sent 5000 read_port (ack_bytes 0))
     -- this ACK 0 is lost, and sent again at a timeout
     ∷ (1, Quiet (Slept 990)) ∷ (1, Quiet (Empty 5000)) ∷ (1, Watched (read_at 1000))
     ∷ (1, Elapsed 5000 1000) ∷ (1, Sent 5000 read_port (ack_bytes 0))
@@ -83,8 +83,8 @@ lossy_acts =
     ∷ (true, Took read_port (oack_bytes agreed))
     ∷ (false, Said reader (oack_bytes agreed)) ∷ (true, Said requests read_request) ∷ []
 
--- these programs noted the exchange, and meet the premises of `a_client_outlasts_loss`, with a limit
--- and a slack of one timeout; both ends are complete, and the client has the file
+-- these programs noted the exchange, and meet the premises of `a_client_outlasts_loss`, with a
+-- limit and a slack of one timeout; both ends are complete, and the client has the file
 pub record HasOutlasted
     (programs : Programs memory_meaning memory_source memory_source memory_sink) : Type 0 where
   pub joined : AreJoined programs (reverse exchange)

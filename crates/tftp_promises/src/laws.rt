@@ -71,6 +71,7 @@ pub fn ports_that_all_differ_are_fresh<T: Store, G: Source, K: Sink>()
 /// The programs of a network reach the end state of their traces by whole steps, one at a time,
 /// and each step receives only what was sent in the steps before it, or what is a stranger's (RFC
 /// 1350, sections 2 and 4).
+#[tactic(auto, using(crate::proofs::JointRuns::traces_joint))]
 pub fn traces_are_joint<T: Store, G: Source, K: Sink>()
     ensures { TracesAreJoint T.meaning T.Source.meaning G.meaning K.meaning }
 {}
@@ -103,12 +104,14 @@ pub fn a_server_is_one_run<T: Store>()
 
 /// A client sends its request to the server first (RFC 1350, section 4), and then notes only events
 /// of its own port, its waits, which report no other port, and the lines that it prints.
+#[tactic(auto, using(crate::proofs::ClientTraces::asks_first))]
 pub fn a_client_asks_first<G: Source, K: Sink>()
     ensures { (to : Endpoint) (client : ClientProgram G.meaning K.meaning to) → AsksFirst client }
 {}
 
 /// A client takes the answers of one port only (RFC 1350, section 4): of other servers at the
 /// address, whatever other ports they have, it handles nothing but ERRORs before it has a peer.
+#[tactic(auto, using(crate::proofs::TakesOne::takes_one))]
 pub fn a_client_takes_one_answer<G: Source, K: Sink>()
     ensures { ClientsTakeOne G.meaning K.meaning }
 {}
@@ -116,12 +119,14 @@ pub fn a_client_takes_one_answer<G: Source, K: Sink>()
 /// At each time of a run each transfer that the server holds has one timer, at its port, and no
 /// timer is of another. So a datagram or a timeout at a port is for one transfer only (RFC 1350,
 /// section 4).
+#[tactic(auto, using(crate::proofs::OneTimerEach::one_timer_each))]
 pub fn each_transfer_has_one_timer<T: Store>()
     ensures { EachHasOneTimer T.meaning T.Source.meaning }
 {}
 
 /// At each time of a run the server has printed one line for each transfer that it removed, and no
 /// other.
+#[tactic(auto, using(crate::proofs::ClientsRun::lines_are_closes))]
 pub fn each_line_is_a_close<T: Store>()
     ensures { EachLineIsAClose T.meaning T.Source.meaning }
 {}
@@ -174,6 +179,7 @@ pub fn a_client_outlasts_loss<T: Store, G: Source, K: Sink>()
 /// of one block by an OACK, and the ACK 0 that it sends first is lost, within a bound of one timeout.
 /// Both ends are complete, and the client has the file. All files are in memory: of the premises on
 /// arguments and disks this says nothing (RFC 1350, sections 2 and 6; RFC 2347).
+#[tactic(auto, using(crate::proofs::ExchangeLossy::some_outlast))]
 pub fn some_programs_outlast_loss()
     ensures { SomeOutlastLoss }
 {}
