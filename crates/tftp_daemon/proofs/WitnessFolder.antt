@@ -1,14 +1,15 @@
 -- A store over a folder that gives a file of one byte and stores another, by calls of its disk: `WitnessServers` uses it.
 use denote.RawPtr.{null_ptr}
-use Rattle.std.proofs.Common.{rules, ◌≡◌, refl, ℕ, [], ◌∷◌, ◌++◌, Some, None, Ok, true, false, arith, inl, inr, List, length, ap, sym, zero, suc}
+use Rattle.std.proofs.Common.{◌≡◌, refl, ℕ, [], ◌∷◌, ◌++◌, Some, None, Ok, true, false, arith, inl, inr, List, length, ap, sym, zero, suc}
 use Rattle.std.proofs.lemmas.Bool.{true≢false}
-use Rattle.tftp_file.specs.Path.{is_segment}
-use Rattle.std.specs.Prelude.{IsTrue, ◌≢◌, ◌<◌, pos, codes, get_or, IsUtf8}
+use Rattle.tftp_file.proofs.PathLemmas.{path_from_name}
+use Rattle.std.specs.Prelude.{◌≢◌, ◌<◌, pos, codes, get_or, IsUtf8}
 use Rattle.std.specs.Fmt.{decimal}
 use Rattle.std.proofs.lemmas.Fmt.{IsAscii-decimal, length-decimal-le}
 use Rattle.std.proofs.lemmas.Str.{IsUtf8-append, IsUtf8-from_ascii}
 use Rattle.std.specs.declared.alloc.Global.{Global}
 use Rattle.std.specs.declared.string.String.{String}
+use Rattle.std.specs.declared.vec.Vec.{Vec}
 use Rattle.tftp_wire.specs.declared.mode.Mode.TheVariants.{Octet, Netascii}
 use Rattle.tftp_disk.specs.DiskTrace.{made_at, modes_asked, state_of, sync_failed}
 use Rattle.tftp_disk.specs.DiskWriter.{calls_of}
@@ -35,19 +36,19 @@ use Rattle.std.specs.String.{string_bytes}
 use Rattle.tftp_daemon.specs.Witness.{Calls, Draft, Source, Store, its_calls, read_name, root, write_name}
 
 -- ---- texts
-abbrev pub text : (bytes : List ℕ) → length bytes < 1000 → IsUtf8 bytes → String Global
-text bytes short valid = record {
-  bytes = record {
-    ptr = null_ptr;
-    len = length bytes;
-    cap = length bytes;
-    alloc = record { memory = record { seal = tt } };
-    items = bytes;
-    ok = (refl, omega arith);
-    small = omega (arith, short);
-  };
-  ok = ∣ valid ∣₁;
+abbrev pub vec : (bytes : List ℕ) → length bytes < 1000 → Vec ℕ Global
+vec bytes short = record {
+  ptr = null_ptr;
+  len = length bytes;
+  cap = length bytes;
+  alloc = record { memory = record { seal = tt } };
+  items = bytes;
+  ok = (refl, omega arith);
+  small = omega (arith, short);
 }
+
+abbrev pub text : (bytes : List ℕ) → length bytes < 1000 → IsUtf8 bytes → String Global
+text bytes short valid = record { bytes = vec bytes short; ok = ∣ valid ∣₁ }
 
 abbrev pub path : List ℕ
 path = root ++ 47 ∷ read_name
@@ -213,18 +214,7 @@ target_text = text target (omega arith) valid_target
 abbrev pub draft_of : (calls : Calls) (buffered : List ℕ) → length buffered < 1000 → made_at calls ≡ Some draft_path →
     sync_failed calls ≡ false → modes_asked calls ≡ [] → Draft
 draft_of calls buffered short place sound modes = record {
-  writer = record {
-    file = record { file = tt; trace = record { events = calls } };
-    buffer = record {
-      ptr = null_ptr;
-      len = length buffered;
-      cap = length buffered;
-      alloc = record { memory = record { seal = tt } };
-      items = buffered;
-      ok = (refl, omega arith);
-      small = omega (arith, short);
-    };
-  };
+  writer = record { file = record { file = tt; trace = record { events = calls } }; buffer = vec buffered short };
   port = 1024;
   draft = draft_text;
   target = target_text;
@@ -276,16 +266,12 @@ others own when none still = record {
 pub apart : draft_path ≢ lock_of target
 apart e = let at = ap (λ (bytes : List ℕ). get_or bytes 5 0) e in absurd (omega (arith, at))
 
-pub allowed : (k : ℕ) (d : List ℕ) → k < 1 → IsTrue (is_segment (get_or (write_name ∷ []) k d))
-allowed zero d within = search rules
-allowed (suc k) d within = absurd (omega (arith, within))
-
 pub begins : HasBegun its_calls write_name store begun (Ok draft)
 begins = record {
   settings = record { read_only = refl; uploads = refl; root = refl; drafts = refl };
   read_only = λ e. absurd (let f : false ≡ true = e in cc);
   untouched = λ e. absurd (let f : false ≡ true = e in cc);
-  is_path = record { segments = write_name ∷ []; joined = refl; allowed = allowed; some = omega arith; few = omega arith; short = omega arith };
+  is_path = (path_from_name write_name write_name refl).0;
   uploads = tt;
   made = record {
     aim = refl;

@@ -1,8 +1,12 @@
 -- Runs of two servers over such a store, one that gives a file and one that stores one: the law `some_servers_serve`.
+use Rattle.std.proofs.Common.{◌∙◌, append-nil, subst}
 use Rattle.std.proofs.Common.{rules, ◌≡◌, ◌<◌, ◌≤◌, refl, ℕ, Bool, [], ◌∷◌, Some, None, Ok, Err, true, false, arith, inl, inr, List, length, sym}
 use Rattle.std.specs.Prelude.{◌*◌, ◌^◌, codes, slice_index_or, slice_set, ⊤}
 use Rattle.std.proofs.lemmas.Bool.{ltb-true, true≢false}
-use Rattle.std.proofs.lemmas.Fmt.{decimal_digit}
+use Rattle.std.proofs.NetLemmas.Sockets.{read_socket_v4_sound}
+use Rattle.std.specs.Net.Grammar.{IsSocketV4Text}
+use Rattle.std.specs.Net.Reader.{read_ipv4, read_number, read_octet, read_port, read_socket_v4}
+use Rattle.std.specs.declared.net.socket_addr.SocketAddrV4.{SocketAddrV4}
 use Rattle.clap.proofs.OnLiterals.{clap_on_literals}
 use denote.RawPtr.{null_ptr}
 use Rattle.tftp_wire.specs.Spelling.{Spells, canonical}
@@ -103,29 +107,16 @@ is_one : IsOfSeveral config → ⊥
 is_one (inl many) = absurd (omega (arith, many))
 is_one (inr others) = others refl
 
--- the server's address, as it is spelled
+-- the server's address, as it is read
 pub its_name : Names (codes "1.2.3.4:69") (Some server)
-its_name = (
-  record { ip = record { octets = 1 ∷ 2 ∷ 3 ∷ 4 ∷ [] }; port = 69 },
-  (
-    codes "1.2.3.4",
-    codes ":69",
-    refl,
-    record {
-      a = 1;
-      b = 2;
-      c = 3;
-      d = 4;
-      fit = (omega arith, omega arith, omega arith, omega arith);
-      value = refl;
-      spelled =
-          rw (decimal_digit 1 (omega arith)) (rw (decimal_digit 2 (omega arith)) (rw (decimal_digit 3 (omega arith))
-          (rw (decimal_digit 4 (omega arith)) refl)));
-    },
-    (codes "69", refl, ((omega arith, (omega arith, (omega arith, tt))), refl), omega arith),
-  ),
-  record { ip = refl; port = refl },
-)
+unfolding read_socket_v4 read_ipv4 read_octet read_number read_port
+its_name =
+    let address : SocketAddrV4 = record { ip = record { octets = server.ip }; port = server.port } in
+    let read = read_socket_v4_sound (codes "1.2.3.4:69") [] address refl in (
+      address,
+      subst (λ (text : List ℕ). IsSocketV4Text text address) (sym (read.1 ∙ append-nil read.0)) read.2,
+      record { ip = refl; port = refl },
+    )
 
 pub configured : WordsConfigure words config
 unfolding clap_on_literals
@@ -221,8 +212,12 @@ read_by end = record { end = end; files = A_source read; path = read_name; reque
 abbrev pub s0 : Loop
 s0 = at_start service 69 (serving store []) 0 (listening server.ip 69 [])
 
+abbrev pub asked : Endpoint → List ℕ → Loop
+asked from request =
+    record s0 { pending = Some (from, request); asked = true; events = Received 69 from request ∷ s0.events }
+
 abbrev pub g1 : Loop
-g1 = record s0 { pending = Some (getter, read_request); asked = true; events = Received 69 getter read_request ∷ s0.events }
+g1 = asked getter read_request
 
 abbrev pub g2 : Loop
 g2 = record g1 {
@@ -437,7 +432,7 @@ abbrev pub written_by : EndState → Draft → Held
 written_by end its_draft = record { end = end; files = Sink its_draft; path = write_name; request = write_request }
 
 abbrev pub p1 : Loop
-p1 = record s0 { pending = Some (putter, write_request); asked = true; events = Received 69 putter write_request ∷ s0.events }
+p1 = asked putter write_request
 
 abbrev pub p2 : Loop
 p2 = record p1 {
@@ -460,10 +455,6 @@ may_write = record { valid = search rules; options = search rules; fits = ltb-tr
 pub write_spelled : Spells (Write (request_of write_name Octet no_options)) write_request
 write_spelled = record { valid = may_write.valid; word = 111 ∷ 99 ∷ 116 ∷ 101 ∷ 116 ∷ []; mode = refl; whole = refl }
 
-unfoldable pub asks_to_write : Step s0 p1
-asks_to_write = Request_received
-    (record { from = putter; bytes = write_request; none = refl; goes_on = refl; first = refl; is = refl })
-
 pub begins_draft : AsksToWrite stores sources (serving store []) putter write_request write_name Octet []
     (A_transfer (written_by receiving draft) begun)
 begins_draft = record {
@@ -475,6 +466,10 @@ begins_draft = record {
   memory = λ e. absurd (cc);
   goes_on = refl;
 }
+
+unfoldable pub asks_to_write : Step s0 p1
+asks_to_write = Request_received
+    (record { from = putter; bytes = write_request; none = refl; goes_on = refl; first = refl; is = refl })
 
 unfoldable pub opens_write : Step p1 p2
 unfolding occurrences_of name_of answered_option

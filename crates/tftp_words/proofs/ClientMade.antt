@@ -1,35 +1,28 @@
 -- What a `tftp` did for its words is what some programs did: none, one, or two where its options were refused.
-use Rattle.std.proofs.Common.{◌≡◌, ℕ, true, false, List, [], ◌∷◌, ◌++◌, length, append_assoc, Option, Some, None, refl, sym}
-use Rattle.std.proofs.Common.{ap, ◌∙◌, subst, inl, inr}
-use Rattle.std.specs.List.{AllByRecursion}
+use Rattle.tftp_words.proofs.Common.{◌≡◌, ℕ, true, false, List, [], ◌∷◌, ◌++◌, length, append_assoc, Some, None, refl}
+use Rattle.tftp_words.proofs.Common.{sym, ap, ◌∙◌, subst, inl, inr, AllByRecursion, Kind, Read, Write, SinkMeaning}
+use Rattle.tftp_words.proofs.Common.{SourceMeaning, Files, Source, Sink, MAX_WIRE, Endpoint, ClientRead, ClientWrite}
+use Rattle.tftp_words.proofs.Common.{SocketEvent, Moved, RunsWords, IsFileOf, moved_by, printed, ClientsArePrograms}
+use Rattle.tftp_words.proofs.Common.{IsCounted, ClientProgram, To_read, To_write, AreRunsOf, ClientRan, IsRunFor, Job}
+use Rattle.tftp_words.proofs.Common.{LastDid, finished_in, side_of}
+use Rattle.std.proofs.Common.{Option}
 use Rattle.std.specs.Prelude.{is_some}
 use Rattle.std.proofs.lemmas.Bool.{true≢false}
-use Rattle.tftp_negotiate.specs.declared.known.Kind.{Kind}
-use Rattle.tftp_negotiate.specs.declared.known.Kind.TheVariants.{Read, Write}
-use Rattle.tftp_file.specs.Sink.{SinkMeaning}
-use Rattle.tftp_file.specs.Source.{SourceMeaning}
-use Rattle.tftp_file.specs.declared.files.Files.{Files}
-use Rattle.tftp_file.specs.declared.files.Files.TheVariants.{Source, Sink}
-use Rattle.tftp_file.specs.declared.length.TheConstants.{MAX_WIRE}
+use Rattle.tftp_negotiate.specs.declared.asked.Asked.{Asked}
 use Rattle.tftp_ends.specs.End.{EndState, is_complete, outcome_of}
 use Rattle.tftp_ends.specs.declared.outcome.Outcome.{Outcome}
 use Rattle.tftp_ends.specs.Opening.{getting, putting}
-use Rattle.tftp_ends.specs.declared.endpoint.Endpoint.{Endpoint}
-use Rattle.tftp_ends.specs.declared.side.Side.TheVariants.{ClientRead, ClientWrite}
 use Rattle.tftp_lines.specs.declared.client_outcome.ClientOutcome.{ClientOutcome}
-use Rattle.tftp_lines.specs.declared.client_outcome.ClientOutcome.TheVariants as ends
 use Rattle.tftp_sockets.specs.Quiet.{waits}
-use Rattle.tftp_sockets.specs.Trace.{SocketEvent}
 use Rattle.tftp_client.specs.Converses.{EndsBy, State, most_waits}
-use Rattle.tftp_client.specs.Moved.{Moved, nothing_moved, run_moves}
-use Rattle.tftp_client.specs.Ordered.{RunsOrder, RunsWords}
-use Rattle.tftp_client.specs.Runs.{Completes, FailsBy, FailsTransfer, IsCountOf, IsFileOf, IsWhole, MayOpen, RunsAs}
-use Rattle.tftp_client.specs.Runs.{Dallies, Transfers, measured, moved_by, opens, plain, printed}
+use Rattle.tftp_client.specs.Moved.{nothing_moved, run_moves}
+use Rattle.tftp_client.specs.Runs.{Completes, FailsBy, FailsTransfer, IsCountOf, IsWhole, MayOpen, RunsAs, Dallies}
+use Rattle.tftp_client.specs.Runs.{Transfers, measured, opens, plain}
 use Rattle.tftp_client.specs.Words.{WordsName}
-use Rattle.tftp_promises.specs.ClientPrograms.{ClientsArePrograms, IsClientRun, IsCounted, Mode, Netascii, Octet}
-use Rattle.tftp_promises.specs.Programs.{ClientOpens, ClientProgram, To_read, To_write, name_of}
-use Rattle.tftp_words.specs.Ran.{AreRunsOf, ClientRan, Finished, HasStopped, HaveStopped, IsRunFor, IsRunOf, Job, LastDid, NotedBy}
-use Rattle.tftp_words.specs.Ran.{finished_by, finished_in, side_of}
+use Rattle.tftp_promises.specs.ClientPrograms.{IsClientRun, Mode, Netascii, Octet}
+use Rattle.tftp_promises.specs.Programs.{ClientOpens, name_of}
+use Rattle.tftp_words.specs.Ran.{Finished, HasStopped, HaveStopped, IsRunOf, NotedBy}
+use Rattle.tftp_lines.specs.declared.client_outcome.ClientOutcome.TheVariants as ends
 
 module _ {G K : Type 0} (inputs : SourceMeaning G) (outputs : SinkMeaning K) {to : Endpoint} where
   -- the end of a job opens to this server
@@ -60,16 +53,14 @@ module _ {G K : Type 0} (inputs : SourceMeaning G) (outputs : SinkMeaning K) {to
     source = source;
     is_file = refl;
   })
-  job_opens Read job length (Source source) there may side = absurd side
-  job_opens Write job length (Sink sink) there may side = absurd side
+  job_opens kind job length file there may side = absurd side
 
   its_name : (kind : Kind) (job : Job) (length : ℕ) (file : Files G K) (there : job.server ≡ to)
       (may : MayOpen kind job length) (side : IsFileOf inputs outputs kind file) →
       name_of (job_opens kind job length file there may side) ≡ job.name.now
   its_name Read job length (Sink sink) there may side = refl
   its_name Write job length (Source source) there may side = refl
-  its_name Read job length (Source source) there may side = absurd side
-  its_name Write job length (Sink sink) there may side = absurd side
+  its_name kind job length file there may side = absurd side
 
 module _ {G K : Type 0} {inputs : SourceMeaning G} {outputs : SinkMeaning K} {to : Endpoint} where
   -- one run after another
@@ -105,18 +96,12 @@ stopped_both : {G K : Type 0} {inputs : SourceMeaning G} {outputs : SinkMeaning 
 stopped_both most (Some done) clients more h k = tt
 stopped_both most None clients more h k = both (HasStopped most) clients more h k
 
-job_mode : (kind : Kind) (job : Job) (length : ℕ) → (opens kind job length).role.mode ≡ job.mode
-job_mode Read job length = refl
-job_mode Write job length = refl
-
-job_side : (kind : Kind) (job : Job) (length : ℕ) → (opens kind job length).role.side ≡ side_of kind
-job_side Read job length = refl
-job_side Write job length = refl
-
-job_length : (kind : Kind) (job : Job) (length : ℕ) → side_of kind ≡ ClientWrite →
-    (opens kind job length).role.length ≡ length
-job_length Read job length is = cc
-job_length Write job length is = refl
+-- the end of a job
+job_role : (kind : Kind) (job : Job) (length : ℕ) → ((opens kind job length).role.mode ≡ job.mode)
+    × ((opens kind job length).role.side ≡ side_of kind)
+    × (side_of kind ≡ ClientWrite → (opens kind job length).role.length ≡ length)
+job_role Read job length = (refl, refl, λ is. cc)
+job_role Write job length = (refl, refl, λ is. refl)
 
 module _ {G K : Type 0} {inputs : SourceMeaning G} {outputs : SinkMeaning K}
     (are_programs : ClientsArePrograms inputs outputs) (ran : ClientRan inputs outputs) (to : Endpoint) where
@@ -143,19 +128,19 @@ module _ {G K : Type 0} {inputs : SourceMeaning G} {outputs : SinkMeaning K}
 
   module _ (job : Job) (named : WordsName ran.words job) (there : job.server ≡ to) where
     -- the run of an end of the job, with these options
-    module _ (tried : Job) (name : tried.name.now ≡ job.name.now) (mode : tried.mode ≡ job.mode)
-        (kind : tried.kind ≡ job.kind) (server : tried.server ≡ to) where
+    module _ (asked : Asked) where
+      abbrev tried : Job
+      tried = record job { asked = asked }
+
       module _ {before : List SocketEvent} {s : State} {moved : Moved} (length : ℕ) (file : Files G K)
-          (may : MayOpen tried.kind tried length) (side : IsFileOf inputs outputs tried.kind file)
-          (run : IsClientRun inputs outputs ran.ip (job_opens inputs outputs tried.kind tried length file server may side)
+          (may : MayOpen job.kind tried length) (side : IsFileOf inputs outputs job.kind file)
+          (run : IsClientRun inputs outputs ran.ip (job_opens inputs outputs job.kind tried length file there may side)
           before s moved) where
         runs_for : IsRunFor job run.client
         runs_for = record {
-          name = run.name ∙ (its_name inputs outputs tried.kind tried length file server may side ∙ name);
-          mode = ap (λ (e : EndState). e.role.mode) run.end ∙ (job_mode tried.kind tried length ∙ mode);
-          side =
-              ap (λ (e : EndState). e.role.side) run.end
-              ∙ (job_side tried.kind tried length ∙ ap side_of kind);
+          name = run.name ∙ its_name inputs outputs job.kind tried length file there may side;
+          mode = ap (λ (e : EndState). e.role.mode) run.end ∙ (job_role job.kind tried length).0;
+          side = ap (λ (e : EndState). e.role.side) run.end ∙ (job_role job.kind tried length).1;
         }
 
         made_one : (most : ℕ) (its : Option Finished) → LastDid its (run.client ∷ []) →
@@ -190,29 +175,25 @@ module _ {G K : Type 0} {inputs : SourceMeaning G} {outputs : SinkMeaning K}
           FailsBy inputs outputs most tried before after end → Made most None before after
       made_stopped most before after (ends.Failed outcome) failed =
           let f = failed.1 in
-          let opened = job_opens inputs outputs tried.kind tried failed.0 f.fails.file server f.may f.side in
+          let opened = job_opens inputs outputs job.kind tried failed.0 f.fails.file there f.may f.side in
           let run =
-          are_programs to ran.ip (opens tried.kind tried failed.0) f.fails.file opened before tried.backoff f.fails.port f.fails.reading
-          f.fails.stops.last f.fails.stops.files f.fails.stops.converses in
+          are_programs to ran.ip (opens job.kind tried failed.0) f.fails.file opened before job.backoff f.fails.port
+          f.fails.reading f.fails.stops.last f.fails.stops.files f.fails.stops.converses in
           subst (λ (events : List SocketEvent). Made most None before events) f.fails.stops.events
           (made_one failed.0 f.fails.file f.may f.side run.runs_so most None tt (
             has_stopped failed.0 f.fails.file f.may f.side run.runs_so most outcome f.fails.stops.incomplete
                 f.fails.stops.ends,
             tt,
           ))
-      made_stopped most before after (ends.Complete count) failed = made_none failed.1
-      made_stopped most before after ends.FileFault failed = made_none failed.1
-      made_stopped most before after ends.SocketFault failed = made_none failed.1
-      made_stopped most before after (ends.NotOpened fault) failed = made_none failed.1
-      made_stopped most before after ends.Memory failed = made_none failed.1
+      made_stopped most before after end failed = made_none failed.1
 
       -- it is complete, and stayed
       module _ {port count : ℕ} {line : List ℕ} {before after : List SocketEvent} {last : State} {files : Files G K}
-          (runs : RunsAs inputs outputs port tried.kind tried before last files count)
+          (runs : RunsAs inputs outputs port job.kind tried before last files count)
           (stays : Dallies inputs outputs port (printed line last) files after)
           (stayed : is_complete stays.last.end.position.phase ≡ true)
           (still : (moved : Moved) → run_moves stays.converses moved ≡ moved)
-          (file : IsFileOf inputs outputs tried.kind files) where
+          (file : IsFileOf inputs outputs job.kind files) where
         abbrev moved : Moved
         moved = run_moves runs.runs.converses nothing_moved
 
@@ -235,37 +216,24 @@ module _ {G K : Type 0} {inputs : SourceMeaning G} {outputs : SinkMeaning K}
 
         made_complete : (most : ℕ) → IsWhole inputs outputs files count moved.bytes → Made most (Some finished) before after
         made_complete most whole =
-            let opened = job_opens inputs outputs tried.kind tried runs.length runs.runs.file server runs.may runs.side in
+            let opened = job_opens inputs outputs job.kind tried runs.length runs.runs.file there runs.may runs.side in
             let run =
-            (are_programs to ran.ip (opens tried.kind tried runs.length) runs.runs.file opened before tried.backoff port runs.runs.reading last files
-            runs.runs.converses).stays_so line after stays in
-            let side_is : run.client.first.role.side ≡ side_of tried.kind =
-            ap (λ (e : EndState). e.role.side) run.end ∙ job_side tried.kind tried runs.length in
-            let mode_is : run.client.first.role.mode ≡ tried.mode =
-            ap (λ (e : EndState). e.role.mode) run.end ∙ job_mode tried.kind tried runs.length in
+            (are_programs to ran.ip (opens job.kind tried runs.length) runs.runs.file opened before job.backoff port
+            runs.runs.reading last files runs.runs.converses).stays_so line after stays in
+            let its = runs_for runs.length runs.runs.file runs.may runs.side run in
             let counted : IsCounted count run.client = record {
               complete = ap (λ (e : EndState). is_complete e.position.phase) run.ends ∙ stayed;
               received =
-                  λ is. received tried.kind files file whole (sym side_is ∙ is)
+                  λ is. received job.kind files file whole (sym its.side ∙ is)
                   ∙ ap (λ (m : Moved). length m.bytes) (sym (run.moves ∙ still moved));
               sent = λ is octet.
-                  sent tried.kind files tried.mode file runs.counts (sym side_is ∙ is) (sym mode_is ∙ octet)
-                  ∙ (sym (job_length tried.kind tried runs.length (sym side_is ∙ is))
+                  sent job.kind files job.mode file runs.counts (sym its.side ∙ is) (sym its.mode ∙ octet)
+                  ∙ (sym ((job_role job.kind tried runs.length).2 (sym its.side ∙ is))
                   ∙ ap (λ (e : EndState). e.role.length) (sym run.end));
             } in
             subst (λ (events : List SocketEvent). Made most (Some finished) before events) stays.events
-            (made_one runs.length runs.runs.file runs.may runs.side run most (Some finished) (
-              [],
-              run.client,
-              refl,
-              runs_for runs.length runs.runs.file runs.may runs.side run,
-              counted,
-              run.moves ∙ still moved,
-            ) tt)
-
-    itself_stopped : (most : ℕ) (before after : List SocketEvent) (end : ClientOutcome) →
-        FailsBy inputs outputs most job before after end → Made most None before after
-    itself_stopped most before after end failed = made_stopped job refl refl refl there most before after end failed
+            (made_one runs.length runs.runs.file runs.may runs.side run most (Some finished)
+            ([], run.client, refl, its, counted, run.moves ∙ still moved) tt)
 
     abbrev done_by : ℕ → Moved → Option Finished
     done_by count moved = Some (record { job = job; count = count; moved = moved })
@@ -277,24 +245,19 @@ module _ {G K : Type 0} {inputs : SourceMeaning G} {outputs : SinkMeaning K}
           IsWhole inputs outputs h.files h.count (moved_by inputs outputs transfers).bytes →
           Made (most_waits before) (done_by h.count (moved_by inputs outputs transfers)) before after
       by_transfers (inl runs) whole =
-          made_complete job refl refl refl there runs h.stays h.stayed h.still h.side (most_waits before) whole
+          made_complete job.asked runs h.stays h.stayed h.still h.side (most_waits before) whole
       by_transfers (inr again) whole =
-          made_both (itself_stopped (most_waits before) before again.0 again.1.end again.1.fails)
-          (made_complete (plain job) refl refl refl there again.2 h.stays h.stayed h.still h.side (most_waits before) whole)
+          made_both (made_stopped job.asked (most_waits before) before again.0 again.1.end again.1.fails)
+          (made_complete (plain job).asked again.2 h.stays h.stayed h.still h.side (most_waits before) whole)
 
     made_failed : (most : ℕ) (before after : List SocketEvent) (end : ClientOutcome) →
         FailsTransfer inputs outputs most job before after end → Made most None before after
     made_failed most before after end h = elim h [
-      | inl failed ↦ itself_stopped most before after end failed.0
+      | inl failed ↦ made_stopped job.asked most before after end failed.0
       | inr again ↦
-          made_both (itself_stopped most before again.0 again.1.end again.1.fails)
-          (made_stopped (plain job) refl refl refl there most again.0 after end again.2)
+          made_both (made_stopped job.asked most before again.0 again.1.end again.1.fails)
+          (made_stopped (plain job).asked most again.0 after end again.2)
     ]
-
-    made_order : (status : ℕ) (before after : List SocketEvent) (h : RunsOrder inputs outputs job status before after) →
-        Made (most_waits before) (finished_by inputs outputs job status before after h) before after
-    made_order status before after (inl done) = made_completes status before after done.1
-    made_order status before after (inr failed) = made_failed (most_waits before) before after failed.1 failed.3
 
   -- what the command did
   made_words : ((job : Job) → WordsName ran.words job → job.server ≡ to) →
@@ -302,8 +265,10 @@ module _ {G K : Type 0} {inputs : SourceMeaning G} {outputs : SinkMeaning K}
       Made (most_waits ran.before) (finished_in inputs outputs ran.words ran.status ran.before ran.after h) ran.before
       ran.after
   made_words asks (inl nothing) = made_none nothing.0
-  made_words asks (inr did) =
-      made_order did.0 did.1 (asks did.0 did.1) ran.status ran.before ran.after did.2
+  made_words asks (inr (job, named, inl done)) =
+      made_completes job named (asks job named) ran.status ran.before ran.after done.1
+  made_words asks (inr (job, named, inr failed)) =
+      made_failed job named (asks job named) (most_waits ran.before) ran.before ran.after failed.1 failed.3
 
   pub client_made : ((job : Job) → WordsName ran.words job → job.server ≡ to) →
       (clients : List (ClientProgram inputs outputs to)) × AreRunsOf ran clients

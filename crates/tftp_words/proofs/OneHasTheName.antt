@@ -1,20 +1,14 @@
 -- Of two files that got one name, the one that got it later has it.
-use Rattle.std.proofs.Common.{◌≡◌, ◌∙◌, ℕ, Bool, true, false, List, [], ◌∷◌, ◌++◌, length, Ok, Err, refl}
-use Rattle.std.proofs.Common.{sym, ap, subst, zero, suc, inl, inr, arith, ◌+◌, ◌<◌}
-use Rattle.std.proofs.lemmas.List.{length-append}
-use Rattle.std.specs.Prelude.{◌≢◌, ◌⊎◌, ◌==◌}
-use Rattle.std.proofs.lemmas.Bool.{cond-true, cond-false, eqb-false}
-use Rattle.tftp_disk.specs.DiskTrace.{DiskEvent}
-use Rattle.tftp_disk.specs.DiskTrace.DiskEvent.{Looked, Made, Linked, Renamed, Removed}
-use Rattle.tftp_disk.specs.Still.{AllLeave, LeavesPath}
+use Rattle.tftp_words.proofs.Common.{◌≡◌, ◌∙◌, ℕ, Bool, true, false, List, [], ◌∷◌, ◌++◌, length, Ok, Err, refl, sym}
+use Rattle.tftp_words.proofs.Common.{ap, subst, zero, suc, inl, inr, arith, ◌+◌, ◌<◌, length-append, ◌≢◌, ◌⊎◌, ◌==◌}
+use Rattle.tftp_words.proofs.Common.{cond-true, cond-false, eqb-false, ne_eqb, DiskEvent, Looked, Made, Linked, Renamed}
+use Rattle.tftp_words.proofs.Common.{Removed, AllLeave, LeavesPath, IsFreeLocked, lock_of, KeepLock, Agrees, AllLeaveIt}
+use Rattle.tftp_words.proofs.Common.{AllKeepLock, AnswersAgree, FolderCall, GivesTo, IsLinkTo, calls_by, Makes}
 use Rattle.tftp_folder.specs.Changing.{HoldsLock}
-use Rattle.tftp_folder.specs.Commit.{IsFreeLocked, lock_of}
-use Rattle.tftp_folder.specs.Locks.{KeepLock, KeepsLock}
-use Rattle.tftp_words.specs.SharedFolder.{Agrees, AllLeaveIt, AllKeepLock, AnswersAgree, FolderCall, GivesTo, HasName, IsLater, IsLinkTo, IsNamed}
-use Rattle.tftp_words.specs.SharedFolder.{OneHasTheName, Overlaps, calls_by}
-use Rattle.tftp_words.specs.SharedFolder.GivesTo.{Makes}
-use Rattle.tftp_words.proofs.SharedCalls.{agree_after, all_keep_after, calls_after, differ, found, gives_no_look, gives_not_left, leave_after, left_after}
-use Rattle.tftp_words.proofs.SharedCalls.{nothing_asked, own_call, places}
+use Rattle.tftp_folder.specs.Locks.{KeepsLock}
+use Rattle.tftp_words.specs.SharedFolder.{HasName, IsLater, IsNamed, OneHasTheName, Overlaps}
+use Rattle.tftp_words.proofs.SharedCalls.{agree_after, all_keep_after, calls_after, found, gives_no_look}
+use Rattle.tftp_words.proofs.SharedCalls.{gives_not_left, leave_after, left_after, nothing_asked, own_call, places}
 use Rattle.tftp_words.proofs.SharedCalls.Places.{After, Before, One}
 
 -- what neither its holder nor its maker can have done
@@ -28,10 +22,6 @@ leaves_by lock (Linked file from to (Ok done)) own before keeps none agrees has 
 leaves_by lock (Renamed file from to (Ok done)) own before keeps none agrees has =
     (λ same. none (keeps (inl same)), λ same. none (keeps (inr same)))
 leaves_by lock (Removed at (Ok done)) own before keeps none agrees has = λ same. none (keeps same)
-leaves_by lock (Made at (Err error)) own before keeps none agrees has = tt
-leaves_by lock (Linked file from to (Err error)) own before keeps none agrees has = tt
-leaves_by lock (Renamed file from to (Err error)) own before keeps none agrees has = tt
-leaves_by lock (Removed at (Err error)) own before keeps none agrees has = tt
 leaves_by lock event own before keeps none agrees has = tt
 
 module _ (lock : List ℕ) where
@@ -66,29 +56,22 @@ module _ (lock : List ℕ) where
         | One same more ↦ other (ap (λ (x : FolderCall). x.0) same)
         | Before b is more ↦
             -- it was made anew while it was there
-            (left_after lock f.newer (q, made) b
-            (subst (λ (l : List FolderCall). AllLeaveIt lock l) is left)).0 refl
+            (left_after lock f.newer (q, made) b is left).0 refl
         | After b is more ↦
             -- it was there when this program made it
-            let own = agree_after c (p, made) rest agree in
-            let kept : AllKeepLock lock (b ++ (q, made) ∷ f.older) =
-            subst (λ (l : List FolderCall). AllKeepLock lock l) more
-            (all_keep_after lock ((p, made) ∷ []) rest (all_keep_after lock c ((p, made) ∷ rest) keep)) in
+            let own = agree_after c (p, made) rest refl agree in
             let its : calls_by q c ++ calls_by q ((p, made) ∷ b) ≡ holds.since =
-            sym (calls_after q c ((p, made) ∷ b)) ∙ (ap (λ (l : List FolderCall). calls_by q l) (sym is) ∙ f.before) in
-            let skip : calls_by q ((p, made) ∷ b) ≡ calls_by q b =
-            cond-false (p == q) (made ∷ calls_by q b) (calls_by q b) (differ p q (p == q) refl other) in
+            sym (calls_after q c ((p, made) ∷ b)) ∙ (ap (calls_by q) (sym is) ∙ f.before) in
             let its_left : AllLeave lock (calls_by q b) =
-            subst (λ (l : List DiskEvent). AllLeave lock l) skip
-            (leave_after lock (calls_by q c) (calls_by q ((p, made) ∷ b))
-            (subst (λ (l : List DiskEvent). AllLeave lock l) (sym its) holds.left)) in
+            subst (AllLeave lock) (cond-false (p == q) (made ∷ calls_by q b) (calls_by q b) (ne_eqb p q other))
+            (leave_after lock (calls_by q c) (calls_by q ((p, made) ∷ b)) (subst (AllLeave lock) (sym its) holds.left)) in
             let size : length rest ≡ length b + suc (length f.older) =
             ap (λ (l : List FolderCall). length l) more ∙ length-append b ((q, made) ∷ f.older) in
             own.0
-            (subst (λ (l : List FolderCall). HasName lock l) (sym more)
+            (subst (HasName lock) (sym more)
             (there q b f.older
-            (stays q b f.older (omega (arith, long, size))
-            (subst (λ (l : List FolderCall). AnswersAgree l) more own.1) kept its_left)))
+            (stays q b f.older (omega (arith, long, size)) (subst AnswersAgree more own.1)
+            (subst (AllKeepLock lock) more (all_keep_after lock c (p, made) rest refl keep)) its_left)))
       ]
 
   -- one more call leaves it, if those before it did
@@ -98,13 +81,12 @@ module _ (lock : List ℕ) where
       → AllLeave lock (calls_by p (x ∷ c)) → AllLeaveIt lock c → (own : Bool) → (x.0 == p) ≡ own
       → LeavesPath lock x.1
   leaves_next fuel stays p x c rest long agrees agree keep left later true own =
-      (subst (λ (l : List DiskEvent). AllLeave lock l)
-      (cond-true (x.0 == p) (x.1 ∷ calls_by p c) (calls_by p c) own) left).0
+      (subst (AllLeave lock) (cond-true (x.0 == p) (x.1 ∷ calls_by p c) (calls_by p c) own) left).0
   leaves_next fuel stays p x c rest long agrees agree keep left later false own =
       let order = c ++ (p, made) ∷ rest in
       leaves_by lock x.1 (calls_by x.0 order) order
-      (subst (λ (l : List DiskEvent). KeepLock lock l) (own_call x.0 x.1 order) (keep x.0)).0
-      (none_else fuel stays p x.0 c rest long agree (all_keep_after lock (x ∷ []) order keep) later
+      (subst (KeepLock lock) (own_call x.0 x.1 order) (keep x.0)).0
+      (none_else fuel stays p x.0 c rest long agree (all_keep_after lock [] x order refl keep) later
       (λ same. eqb-false x.0 p own (sym same)))
       agrees (there p c rest later)
 
@@ -113,9 +95,8 @@ module _ (lock : List ℕ) where
   stays (suc fuel) p [] rest long agree keep left = tt
   stays (suc fuel) p (x ∷ c) rest long agree keep left =
       let order = c ++ (p, made) ∷ rest in
-      let later = stays fuel p c rest (omega (arith, long)) agree.1 (all_keep_after lock (x ∷ []) order keep)
-      (leave_after lock (calls_by p (x ∷ [])) (calls_by p c)
-      (subst (λ (l : List DiskEvent). AllLeave lock l) (calls_after p (x ∷ []) c) left)) in (
+      let later = stays fuel p c rest (omega (arith, long)) agree.1 (all_keep_after lock [] x order refl keep)
+      (leave_after lock (calls_by p (x ∷ [])) (calls_by p c) (subst (AllLeave lock) (calls_after p (x ∷ []) c) left)) in (
         leaves_next fuel (stays fuel) p x c rest (omega (arith, long)) agree.0 agree.1 keep left later (x.0 == p) refl,
         later,
       )
@@ -127,15 +108,15 @@ module _ (lock : List ℕ) where
   made_once order p q p_since p_before q_since q_before agree keep p_is p_left q_is q_left other =
       let f = found p order p_since made p_before p_is in
       let fuel = suc (length f.newer + length f.older) in
-      let agree' = subst (λ (l : List FolderCall). AnswersAgree l) f.is agree in
-      let keep' = subst (λ (l : List FolderCall). AllKeepLock lock l) f.is keep in
+      let agree' = subst AnswersAgree f.is agree in
+      let keep' = subst (AllKeepLock lock) f.is keep in
       let left = stays fuel p f.newer f.older (omega arith) agree' keep'
-      (subst (λ (l : List DiskEvent). AllLeave lock l) (sym f.before) p_left) in
+      (subst (AllLeave lock) (sym f.before) p_left) in
       none_else fuel (stays fuel) p q f.newer f.older (omega arith) agree' keep' left other
       (record {
         since = q_since;
         before = q_before;
-        made = ap (λ (l : List FolderCall). calls_by q l) (sym f.is) ∙ q_is;
+        made = ap (calls_by q) (sym f.is) ∙ q_is;
         left = q_left;
       })
 
@@ -146,24 +127,10 @@ module _ {order : List FolderCall} {target : List ℕ} {i j : ℕ} {may_replace 
   lost : AllLeaveIt target first.newer → ⊥
   lost left =
       gives_not_left target second.call second.gives
-      (left_after target second.newer (j, second.call) between
-      (subst (λ (l : List FolderCall). AllLeaveIt target l) newer left)).0
+      (left_after target second.newer (j, second.call) between newer left).0
 
-  here : Agrees second.call second.older
-  here =
-      (agree_after second.newer (j, second.call) second.older
-      (subst (λ (l : List FolderCall). AnswersAgree l) second.at agree)).0
-
-  older_keep : AllKeepLock (lock_of target) order → AllKeepLock (lock_of target) second.older
-  older_keep keep =
-      all_keep_after (lock_of target) ((j, second.call) ∷ []) second.older
-      (all_keep_after (lock_of target) second.newer ((j, second.call) ∷ second.older)
-      (subst (λ (l : List FolderCall). AllKeepLock (lock_of target) l) second.at keep))
-
-  older_agree : AnswersAgree second.older
-  older_agree =
-      (agree_after second.newer (j, second.call) second.older
-      (subst (λ (l : List FolderCall). AnswersAgree l) second.at agree)).1
+  here : Agrees second.call second.older × AnswersAgree second.older
+  here = agree_after second.newer (j, second.call) second.older second.at agree
 
   module _ (left : AllLeaveIt target between) where
     has : HasName target second.older
@@ -178,30 +145,20 @@ module _ {order : List FolderCall} {target : List ℕ} {i j : ℕ} {may_replace 
     }
 
     no_link : IsLinkTo target second.call → ⊥
-    no_link (file, from, is) = (subst (λ (c : DiskEvent). Agrees c second.older) is here) has
+    no_link (file, from, is) = (subst (λ (c : DiskEvent). Agrees c second.older) is here.0) has
 
     -- between its look and its rename the second asked nothing
     calls_of_second : (calls : List DiskEvent) → calls_by j second.older ≡ calls → calls_by j between ≡ []
         → i ≢ j → calls_by j first.older ≡ calls
     calls_of_second calls is nothing other =
-        let skip : calls_by j ((i, first.call) ∷ first.older) ≡ calls_by j first.older =
-        cond-false (i == j) (first.call ∷ calls_by j first.older) (calls_by j first.older)
-        (differ i j (i == j) refl other) in
-        sym skip
+        sym (cond-false (i == j) (first.call ∷ calls_by j first.older) (calls_by j first.older) (ne_eqb i j other))
         ∙ (ap (λ (l : List DiskEvent). l ++ calls_by j ((i, first.call) ∷ first.older)) (sym nothing)
-        ∙ (sym (calls_after j between ((i, first.call) ∷ first.older))
-        ∙ (ap (λ (l : List FolderCall). calls_by j l) (sym older) ∙ is)))
-
-    first_agree : AnswersAgree first.older
-    first_agree =
-        (agree_after between (i, first.call) first.older
-        (subst (λ (l : List FolderCall). AnswersAgree l) older older_agree)).1
+        ∙ (sym (calls_after j between ((i, first.call) ∷ first.older)) ∙ (ap (calls_by j) (sym older) ∙ is)))
 
     first_keep : AllKeepLock (lock_of target) order → AllKeepLock (lock_of target) first.older
     first_keep keep =
-        all_keep_after (lock_of target) ((i, first.call) ∷ []) first.older
-        (all_keep_after (lock_of target) between ((i, first.call) ∷ first.older)
-        (subst (λ (l : List FolderCall). AllKeepLock (lock_of target) l) older (older_keep keep)))
+        all_keep_after (lock_of target) between (i, first.call) first.older older
+        (all_keep_after (lock_of target) second.newer (j, second.call) second.older second.at keep)
 
     -- while the second held the lock, the first got the name without it, if all keep to the lock
     by_whom : (look : DiskEvent) (before : List DiskEvent)
@@ -214,7 +171,8 @@ module _ {order : List FolderCall} {target : List ℕ} {i j : ℕ} {may_replace 
       | inl link ↦ inl link
       | inr (before', error, none, looked) ↦
           absurd (made_once (lock_of target) first.older i j (Looked target (Err error) ∷ []) before'
-          (look ∷ []) before first_agree (first_keep keep) looked (tt, tt) own (leaves, tt) other)
+          (look ∷ []) before (agree_after between (i, first.call) first.older older here.1).1 (first_keep keep) looked
+          (tt, tt) own (leaves, tt) other)
     ]
 
     overlaps : IsFreeLocked target (calls_by j second.older) → Overlaps first second between
@@ -224,11 +182,10 @@ module _ {order : List FolderCall} {target : List ℕ} {i j : ℕ} {may_replace 
         elim (places (j, look) (i, first.call) f.newer f.older between first.older (sym f.is ∙ older)) [
           | One same rest ↦
               let e : look ≡ first.call = ap (λ (c : FolderCall). c.1) same in
-              absurd (gives_no_look target target (Err error)
-              (subst (λ (c : DiskEvent). GivesTo target c) (sym e) first.gives))
+              absurd (gives_no_look target target (Err error) (subst (GivesTo target) (sym e) first.gives))
           | Before b is more ↦
               let nothing = nothing_asked j between (i, first.call) b
-              (ap (λ (l : List FolderCall). calls_by j l) (sym is) ∙ f.before) in
+              (ap (calls_by j) (sym is) ∙ f.before) in
               let own : calls_by j first.older ≡ look ∷ (Made (lock_of target) (Ok tt) ∷ before) =
               calls_of_second (look ∷ (Made (lock_of target) (Ok tt) ∷ before)) looked nothing.0 nothing.1 in
               record {
@@ -238,18 +195,14 @@ module _ {order : List FolderCall} {target : List ℕ} {i j : ℕ} {may_replace 
                 unlocked = by_whom look before own tt nothing.1 may_replace refl;
               }
           | After b is more ↦
-              let free = (agree_after f.newer (j, look) f.older
-              (subst (λ (l : List FolderCall). AnswersAgree l) f.is older_agree)).0 in
-              absurd (free none (record {
+              absurd ((agree_after f.newer (j, look) f.older f.is here.1).0 none (record {
                 since = b;
                 program = i;
                 call = first.call;
                 before = first.older;
                 is = more;
                 gives = first.gives;
-                left =
-                    (left_after target f.newer (j, look) b
-                    (subst (λ (l : List FolderCall). AllLeaveIt target l) is left)).1;
+                left = (left_after target f.newer (j, look) b is left).1;
               }))
         ]
 

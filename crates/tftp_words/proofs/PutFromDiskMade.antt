@@ -1,33 +1,18 @@
 -- What reads of LOCAL returned to each complete put is what the server wrote to the file that it named.
-use Rattle.std.proofs.Common.{◌≡◌, ℕ, List, [], ◌∷◌, subst, inl, inr}
-use Rattle.std.specs.Prelude.{map}
-use Rattle.std.specs.List.{AllByRecursion}
-use Rattle.tftp_file.specs.Sink.{SinkMeaning}
-use Rattle.tftp_file.specs.Source.{SourceMeaning}
-use Rattle.tftp_file.specs.declared.files.Files.{Files}
-use Rattle.tftp_file.specs.declared.files.Files.TheVariants.{Source, Sink}
-use Rattle.tftp_store.specs.Store.{StoreMeaning}
-use Rattle.tftp_disk.specs.DiskTrace.{DiskEvent}
+use Rattle.tftp_words.proofs.Common.{◌≡◌, ℕ, List, subst, inl, inr, map, SinkMeaning, SourceMeaning, Files, Source}
+use Rattle.tftp_words.proofs.Common.{Sink, StoreMeaning, DiskEvent, SocketEvent, RunsWords, RunKeepsSettings, Limits}
+use Rattle.tftp_words.proofs.Common.{IsStoredAt, FolderStore, Programs, FileDone, PutFile, RanComplete, WordsComplete}
+use Rattle.tftp_words.proofs.Common.{WordsMoveFiles, SeveralMoveFiles, ClientSent, run_of, Job}
 use Rattle.tftp_disk.specs.declared.disk_source.DiskSource.{DiskSource}
-use Rattle.tftp_loop.specs.Steps.{LoopState, LoopStep}
-use Rattle.tftp_loop.specs.Run.{Run}
-use Rattle.tftp_sockets.specs.Trace.{SocketEvent}
-use Rattle.tftp_client.specs.Ordered.{RunsOrder, RunsWords}
-use Rattle.tftp_client.specs.Sent.{IsSentFrom, OrderSent, WordsSent}
-use Rattle.tftp_daemon.specs.Leaves.{RunKeepsSettings}
-use Rattle.tftp_folder.specs.Changing.{Limits, limits_of}
+use Rattle.tftp_client.specs.Sent.{IsSentFrom, WordsSent}
+use Rattle.tftp_folder.specs.Changing.{limits_of}
 use Rattle.tftp_folder.specs.Settings.{SameSettings}
-use Rattle.tftp_folder.specs.Stored.{IsStoredAt, StoresWhatItTook}
+use Rattle.tftp_folder.specs.Stored.{StoresWhatItTook}
 use Rattle.tftp_folder.specs.declared.folder_draft.FolderDraft.{FolderDraft}
-use Rattle.tftp_folder.specs.declared.folder_store.FolderStore.{FolderStore}
-use Rattle.tftp_promises.specs.Order.{Programs}
-use Rattle.tftp_words.specs.EndToEnd.{FileDone, OrderComplete, PutFile, WordsComplete, WordsMoveFiles}
-use Rattle.tftp_words.specs.OverSeveral.{FileDoneThere, SeveralMoveFiles}
-use Rattle.tftp_words.specs.PutFromDisk.{ClientSent, FileLeaves, PutsFromDiskToDisk, run_of}
-use Rattle.tftp_words.specs.Ran.{ClientRan, Job}
-use Rattle.tftp_words.specs.SeveralFromDisk.{FileLeavesThere, SeveralPutsFromDiskToDisk}
-use Rattle.tftp_words.proofs.AlsoThere.{also_there}
-use Rattle.tftp_words.proofs.BegunAt.{BegunBy, began_there}
+use Rattle.tftp_words.specs.PutFromDisk.{FileLeaves, PutsFromDiskToDisk}
+use Rattle.tftp_words.specs.SeveralFromDisk.{SeveralPutsFromDiskToDisk}
+use Rattle.tftp_words.proofs.Following.{all_then, also_there, one_then, several_then}
+use Rattle.tftp_words.proofs.StoresOf.{BegunBy, began_there}
 
 -- what the models of a store of a folder and of its drafts say
 pub record KeepsFolder {R G H W E B : Type 0} (log : R → List DiskEvent)
@@ -53,20 +38,18 @@ module _ {L K : Type 0} {inputs : SourceMeaning (DiskSource L)} {outputs : SinkM
     abbrev Set : FolderStore R G H W → Type 0
     Set store = SameSettings programs.server.start.server.store store
 
-    began : (job : Job) (count : ℕ) (text : List ℕ) (put : PutFile programs job count text) →
+    its_begin : (job : Job) (count : ℕ) (text : List ℕ) (put : PutFile programs job count text) →
         BegunBy stores Set put.path programs.server.start.server.config.overwrite put.began_with
-    began job count text put =
-        began_there Set put.path put.put.serves.transfer.request job.mode
+    its_begin job count text put =
+        began_there put.path put.put.serves.transfer.request job.mode Set
         programs.server.start.server.config.overwrite put.began_with programs.server.run
-        (λ (state : LoopState (FolderStore R G H W) E (FolderDraft B))
-        (run : Run (LoopStep stores sources) programs.server.start state). keeps.settings programs.server.start state run)
-        put.began
+        (λ state run. keeps.settings programs.server.start state run) put.began
 
     its_file : (job : Job) (files : Files (DiskSource L) K) (count : ℕ) (bytes : List ℕ) →
         IsSentFrom job files count bytes → FileDone programs job files count bytes →
         FileLeaves inputs outputs log programs job files count bytes
     its_file job (Source source) count bytes sent done =
-        let b = began job count bytes done in
+        let b = its_begin job count bytes done in
         let c = done.committed in
         record {
           sent = sent;
@@ -81,72 +64,36 @@ module _ {L K : Type 0} {inputs : SourceMeaning (DiskSource L)} {outputs : SinkM
         }
     its_file job (Sink sink) count bytes sent done = done
 
-  -- from what was done with the files to what left the disk, of each job
-  module _ (Done Leaves : Job → Files (DiskSource L) K → ℕ → List ℕ → Type 0)
-      (leaves : (job : Job) (files : Files (DiskSource L) K) (count : ℕ) (bytes : List ℕ) →
-      IsSentFrom job files count bytes → Done job files count bytes → Leaves job files count bytes) where
-    its_order : (job : Job) (status : ℕ) (before after : List SocketEvent)
-        (h : RunsOrder inputs outputs job status before after) → OrderSent inputs outputs job status before after h →
-        OrderComplete inputs outputs Done job status before after h →
-        OrderComplete inputs outputs Leaves job status before after h
-    its_order job status before after (inl done) sent moved = leaves job done.1.files done.1.count _ sent moved
-    its_order job status before after (inr failed) sent moved = tt
+  -- from what was done with the files to what left the disk
+  sent_complete : (words : List (List ℕ)) (status : ℕ) (before after : List SocketEvent)
+      (h : RunsWords inputs outputs words status before after) →
+      WordsSent inputs outputs words status before after h →
+      WordsComplete inputs outputs IsSentFrom words status before after h
+  sent_complete words status before after (inl none) sent = tt
+  sent_complete words status before after (inr (job, named, inl done)) sent = sent
+  sent_complete words status before after (inr (job, named, inr failed)) sent = tt
 
-    its_words : (words : List (List ℕ)) (status : ℕ) (before after : List SocketEvent)
-        (h : RunsWords inputs outputs words status before after) →
-        WordsSent inputs outputs words status before after h →
-        WordsComplete inputs outputs Done words status before after h →
-        WordsComplete inputs outputs Leaves words status before after h
-    its_words words status before after (inl none) sent moved = tt
-    its_words words status before after (inr did) sent moved = its_order did.0 status before after did.2 sent moved
-
-    abbrev DoneOf : ClientRan inputs outputs → Type 0
-    DoneOf ran = WordsComplete inputs outputs Done ran.words ran.status ran.before ran.after ran.ran
-
-    abbrev LeavesOf : ClientSent inputs outputs → Type 0
-    LeavesOf client =
-        WordsComplete inputs outputs Leaves client.words client.status client.before client.after client.sent.0
-
-    all_leave : (clients : List (ClientSent inputs outputs)) →
-        AllByRecursion DoneOf (map (run_of inputs outputs) clients) → AllByRecursion LeavesOf clients
-    all_leave [] done = tt
-    all_leave (client ∷ clients) done = (
-      its_words client.words client.status client.before client.after client.sent.0 client.sent.1 done.0,
-      all_leave clients done.1,
-    )
+  all_sent : (client : ClientSent inputs outputs) → RanComplete inputs outputs IsSentFrom (run_of inputs outputs client)
+  all_sent client =
+      sent_complete client.words client.status client.before client.after client.sent.0 client.sent.1
 
   -- from the words
-  pub puts_from_disk : {R G H W E B : Type 0} (log : R → List DiskEvent)
-      (stores : StoreMeaning (FolderStore R G H W) (FolderDraft B)) (sources : SourceMeaning E) →
-      KeepsFolder log stores sources → WordsMoveFiles log stores sources inputs outputs →
-      PutsFromDiskToDisk inputs outputs log stores sources
-  puts_from_disk log stores sources keeps move server port clients bound asks =
-      let made = move server port (map (run_of inputs outputs) clients) bound asks in (
-        made.0,
-        made.1,
-        λ order is_order honest fresh.
-            let done = made.2 order is_order honest fresh in
-            let programs = made.0 in (
-              done.0,
-              all_leave (FileDone programs) (FileLeaves inputs outputs log programs) (its_file keeps programs) clients
-                  done.1,
-            ),
-      )
+  module _ {R G H W E B : Type 0} {log : R → List DiskEvent} {stores : StoreMeaning (FolderStore R G H W) (FolderDraft B)}
+      {sources : SourceMeaning E} (keeps : KeepsFolder log stores sources) where
+    pub puts_from_disk : WordsMoveFiles log stores sources inputs outputs →
+        PutsFromDiskToDisk inputs outputs log stores sources
+    puts_from_disk move server port clients =
+        one_then (λ programs ran done.
+        (done.0, all_then (run_of inputs outputs) (λ client. its_file keeps programs) all_sent clients done.1))
+        (move server port (map (run_of inputs outputs) clients))
 
-  -- and from those of several servers
-  pub several_puts_from_disk : {R G H W E B : Type 0} (log : R → List DiskEvent)
-      (stores : StoreMeaning (FolderStore R G H W) (FolderDraft B)) (sources : SourceMeaning E) →
-      KeepsFolder log stores sources → SeveralMoveFiles log stores sources inputs outputs →
-      SeveralPutsFromDiskToDisk inputs outputs log stores sources
-  several_puts_from_disk log stores sources keeps move ip port servers clients serve asks =
-      let made = move ip port servers (map (run_of inputs outputs) clients) serve asks in
-      let several = made.0 in (
-        several,
-        made.1,
-        λ order. all_leave (FileDoneThere several order) (FileLeavesThere inputs outputs log several order)
-            (λ job files count bytes sent done. also_there several order
-            (λ programs. FileDone programs job files count bytes)
-            (λ programs. FileLeaves inputs outputs log programs job files count bytes) job
-            (λ programs moved. its_file keeps programs job files count bytes sent moved) done)
-            clients (made.2 order),
-      )
+    -- and from those of several servers
+    pub several_puts_from_disk : SeveralMoveFiles log stores sources inputs outputs →
+        SeveralPutsFromDiskToDisk inputs outputs log stores sources
+    several_puts_from_disk move ip port servers clients =
+        several_then ip (λ several order ran done. all_then (run_of inputs outputs)
+        (λ client job files count bytes sent done. also_there several order
+        (λ programs. FileDone programs job files count bytes)
+        (λ programs. FileLeaves inputs outputs log programs job files count bytes) job
+        (λ programs moved. its_file keeps programs job files count bytes sent moved) done) all_sent clients done)
+        (move ip port servers (map (run_of inputs outputs) clients))

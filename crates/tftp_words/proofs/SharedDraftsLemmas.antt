@@ -1,18 +1,12 @@
 -- While a program holds the temporary file of a put, no other takes it.
-use Rattle.std.proofs.Common.{◌≡◌, ◌∙◌, ℕ, Bool, true, false, List, [], ◌∷◌, ◌++◌, append_assoc, length, Some, Ok, Err, refl}
-use Rattle.std.proofs.Common.{sym, ap, subst, zero, suc, inl, arith, ◌+◌, ◌<◌}
-use Rattle.std.proofs.lemmas.List.{length-append}
-use Rattle.std.specs.Prelude.{◌≢◌, ◌==◌}
-use Rattle.std.proofs.lemmas.Bool.{eqb-true, eqb-false}
-use Rattle.tftp_disk.specs.DiskTrace.{DiskEvent, Done, FileState}
-use Rattle.tftp_disk.specs.DiskTrace.DiskEvent.{Looked, Followed, Resolved, Opened, Tried, Created, Made, Locked, Linked, Renamed, Removed}
-use Rattle.tftp_disk.specs.DiskTrace.DiskEvent.{Folder_opened, Folder_synced, Examined, Given, Not_given, Sought}
-use Rattle.tftp_disk.specs.DiskTrace.DiskEvent.{Written, Not_written, Synced, Mode_set}
-use Rattle.tftp_disk.specs.Still.{AllLeave, IsStillAt, LeavesPath}
+use Rattle.tftp_words.proofs.Common.{◌≡◌, ◌∙◌, ℕ, Bool, true, false, List, [], ◌∷◌, ◌++◌, append_assoc, length, Some}
+use Rattle.tftp_words.proofs.Common.{Ok, refl, sym, ap, subst, zero, suc, inl, arith, ◌+◌, ◌<◌, length-append, ◌≢◌}
+use Rattle.tftp_words.proofs.Common.{◌==◌, eqb-true, eqb-false, DiskEvent, FileState, Made, Linked, Renamed, Removed}
+use Rattle.tftp_words.proofs.Common.{AllLeave, LeavesPath, AllLeaveIt, FolderCall, calls_by, Holds, IsHeldAlone}
+use Rattle.tftp_disk.specs.Still.{IsStillAt}
 use Rattle.tftp_folder.specs.Held.{HoldsDraft, KeepDraft, KeepsDraft, StoresKeepDrafts}
 use Rattle.tftp_folder.specs.Placed.{NamesThere}
-use Rattle.tftp_words.specs.SharedFolder.{AllLeaveIt, FolderCall, calls_by}
-use Rattle.tftp_words.specs.SharedDrafts.{AllLeaveTo, HeldIsLeft, Holds, IsHeldAlone, IsNaming, LeavesTo, NamesTheirOwn, Uses}
+use Rattle.tftp_words.specs.SharedDrafts.{AllLeaveTo, HeldIsLeft, IsNaming, LeavesTo, NamesTheirOwn, Uses}
 use Rattle.tftp_words.proofs.SharedCalls.{calls_after, found, leave_after, left_after, own_call, places}
 use Rattle.tftp_words.proofs.SharedCalls.Places.{After, Before, One}
 
@@ -21,20 +15,23 @@ forget : (path : List ℕ) (p : ℕ) (order : List FolderCall) → AllLeaveTo pa
 forget path p [] left = tt
 forget path p (call ∷ order) left = (left.0.leaves, forget path p order left.1)
 
--- a call that takes the path from nobody leaves it, whatever its answer
-removed : {path : List ℕ} (at : List ℕ) (answer : Done) → path ≢ at → LeavesPath path (Removed at answer)
-removed at (Ok done) none = none
-removed at (Err error) none = tt
+-- a call whose program does not hold the path does not use it, and leaves it
+module _ (path : List ℕ) (own : List DiskEvent) where
+  unused : (call : DiskEvent) → (Uses path call → HoldsDraft path own → ⊥) → KeepsDraft path call own
+      → Uses path call → ⊥
+  unused (Removed at answer) none keep uses = none uses (keep uses)
+  unused (Linked file from to answer) none keep uses = none uses (keep.0 uses)
+  unused (Renamed file from to answer) none keep uses = none uses (keep.0 uses)
+  unused call none keep uses = absurd uses
 
-linked : {path : List ℕ} (file : FileState) (from to : List ℕ) (answer : Done) → path ≢ to
-    → LeavesPath path (Linked file from to answer)
-linked file from to (Ok done) none = none
-linked file from to (Err error) none = tt
-
-renamed : {path : List ℕ} (file : FileState) (from to : List ℕ) (answer : Done) → path ≢ from → path ≢ to
-    → LeavesPath path (Renamed file from to answer)
-renamed file from to (Ok done) none other = (none, other)
-renamed file from to (Err error) none other = tt
+  leaves : (call : DiskEvent) → (Uses path call → ⊥) → KeepsDraft path call own → (call ≡ Made path (Ok tt) → ⊥)
+      → LeavesPath path call
+  leaves (Removed at (Ok done)) unused keep unmade = unused
+  leaves (Linked file from to (Ok done)) unused keep unmade = keep.1
+  leaves (Renamed file from to (Ok done)) unused keep unmade = (unused, keep.1)
+  leaves (Made at (Ok done)) unused keep unmade =
+      λ same. unmade (ap (λ (a : List ℕ). Made a (Ok tt)) (sym same))
+  leaves call unused keep unmade = tt
 
 keep_after : (path : List ℕ) (n b : List DiskEvent) → KeepDraft path (n ++ b) → KeepDraft path b
 keep_after path [] b keep = keep
@@ -79,12 +76,7 @@ module _ (order : List FolderCall) (path : List ℕ) (alone : IsHeldAlone order 
     prefix = rest ++ (p, held.first) ∷ held.older
 
     where_it_is : order ≡ (held.newer ++ (p, held.last) ∷ front) ++ (r, call) ∷ prefix
-    where_it_is =
-        held.at
-        ∙ (ap (λ (l : List FolderCall). held.newer ++ (p, held.last) ∷ (l ++ (p, held.first) ∷ held.older)) is
-        ∙ (ap (λ (l : List FolderCall). held.newer ++ (p, held.last) ∷ l)
-        (append_assoc front ((r, call) ∷ rest) ((p, held.first) ∷ held.older))
-        ∙ sym (append_assoc held.newer ((p, held.last) ∷ front) ((r, call) ∷ prefix))))
+    where_it_is = rw (held.at, is) (simp append_assoc)
 
     its_keep : KeepsDraft path call (calls_by r prefix)
     its_keep = kept r call (held.newer ++ (p, held.last) ∷ front) prefix where_it_is
@@ -106,10 +98,9 @@ module _ (order : List FolderCall) (path : List ℕ) (alone : IsHeldAlone order 
           left = subst (AllLeave path) (sym f.before) holds.left;
         } in
         let long : length rest + suc (length held.older) ≡ length f.newer + suc (length f.older) =
-        sym (length-append rest ((p, held.first) ∷ held.older))
-        ∙ (ap (λ (l : List FolderCall). length l) f.is ∙ length-append f.newer ((r, holds.first) ∷ f.older)) in
+        simp length-append at (ap (λ (l : List FolderCall). length l) f.is) in
         let all : length held.between ≡ length front + suc (length rest) =
-        ap (λ (l : List FolderCall). length l) is ∙ length-append front ((r, call) ∷ rest) in
+        simp length-append at (ap (λ (l : List FolderCall). length l) is) in
         let its_left = forget path r f.newer (stays r its (omega (arith, small, long, all))) in
         elim (places (p, held.first) (r, holds.first) rest held.older f.newer f.older f.is) [
           | One same more ↦ other (sym (ap (λ (c : FolderCall). c.0) same))
@@ -118,54 +109,12 @@ module _ (order : List FolderCall) (path : List ℕ) (alone : IsHeldAlone order 
               alone.alone held its (front ++ (r, call) ∷ f.newer) b (λ same. other (sym same))
               (is ∙ (ap (λ (l : List FolderCall). front ++ (r, call) ∷ l) between
               ∙ sym (append_assoc front ((r, call) ∷ f.newer) ((r, holds.first) ∷ b)))) more
-              (left_after path f.newer (r, holds.first) b
-              (subst (λ (l : List FolderCall). AllLeaveIt path l) between later)).1
+              (left_after path f.newer (r, holds.first) b between later).1
           | After b between more ↦
               -- this one took it while that held it
               alone.alone its held rest b other between more
-              (left_after path rest (p, held.first) b
-              (subst (λ (l : List FolderCall). AllLeaveIt path l) between its_left)).1
+              (left_after path rest (p, held.first) b between its_left).1
         ]
-
-    -- it leaves it
-    by_call : (event : DiskEvent) → event ≡ call → r ≢ p → LeavesPath path event × (Uses path event → ⊥)
-    by_call (Removed at answer) e other =
-        let k = subst (λ (c : DiskEvent). KeepsDraft path c (calls_by r prefix)) (sym e) its_keep in
-        let none : path ≢ at =
-        λ same. none_else (subst (Uses path) e same) other (k same) in
-        (removed at answer none, none)
-    by_call (Linked file from to answer) e other =
-        let k = subst (λ (c : DiskEvent). KeepsDraft path c (calls_by r prefix)) (sym e) its_keep in
-        (linked file from to answer k.1, λ same. none_else (subst (Uses path) e same) other (k.0 same))
-    by_call (Renamed file from to answer) e other =
-        let k = subst (λ (c : DiskEvent). KeepsDraft path c (calls_by r prefix)) (sym e) its_keep in
-        let none : path ≢ from =
-        λ same. none_else (subst (Uses path) e same) other (k.0 same) in
-        (renamed file from to answer none k.1, none)
-    by_call (Made at (Ok done)) e other = (
-      λ same. alone.there held r front rest
-          (is ∙ ap (λ (c : DiskEvent). front ++ (r, c) ∷ rest) (sym e ∙ ap (λ (a : List ℕ). Made a (Ok tt)) (sym same)))
-          later,
-      λ none. none,
-    )
-    by_call (Made at (Err error)) e other = (tt, λ none. none)
-    by_call (Locked at answer) e other = (tt, λ none. none)
-    by_call (Looked at answer) e other = (tt, λ none. none)
-    by_call (Followed at answer) e other = (tt, λ none. none)
-    by_call (Resolved at answer) e other = (tt, λ none. none)
-    by_call (Opened at answer) e other = (tt, λ none. none)
-    by_call (Tried at answer) e other = (tt, λ none. none)
-    by_call (Created at calls) e other = (tt, λ none. none)
-    by_call (Folder_opened at answer) e other = (tt, λ none. none)
-    by_call (Folder_synced at answer) e other = (tt, λ none. none)
-    by_call (Examined answer) e other = (tt, λ none. none)
-    by_call (Given bytes) e other = (tt, λ none. none)
-    by_call (Not_given error) e other = (tt, λ none. none)
-    by_call (Sought to answer) e other = (tt, λ none. none)
-    by_call (Written bytes) e other = (tt, λ none. none)
-    by_call (Not_written error) e other = (tt, λ none. none)
-    by_call (Synced answer) e other = (tt, λ none. none)
-    by_call (Mode_set mode answer) e other = (tt, λ none. none)
 
     -- its own calls do
     own_leaves : r ≡ p → LeavesPath path call
@@ -179,15 +128,18 @@ module _ (order : List FolderCall) (path : List ℕ) (alone : IsHeldAlone order 
     by_whom true same =
         record { leaves = own_leaves (eqb-true r p same); own = λ uses. eqb-true r p same }
     by_whom false other =
-        let did = by_call call refl (eqb-false r p other) in
-        record { leaves = did.0; own = λ uses. absurd (did.1 uses) }
+        let none = unused path (calls_by r prefix) call (λ uses. none_else uses (eqb-false r p other)) its_keep in
+        record {
+          leaves = leaves path (calls_by r prefix) call none its_keep (λ made. alone.there held r front rest
+              (is ∙ ap (λ (c : DiskEvent). front ++ (r, c) ∷ rest) made) later);
+          own = λ uses. absurd (none uses);
+        }
 
   left_from : (p : ℕ) (held : Holds order path p) (fuel : ℕ) → size p held < suc fuel → Stays fuel
       → (front rest : List FolderCall) → held.between ≡ front ++ rest → AllLeaveTo path p rest
   left_from p held fuel small stays front [] is = tt
   left_from p held fuel small stays front (call ∷ rest) is =
-      let more = left_from p held fuel small stays (front ++ call ∷ []) rest
-      (is ∙ sym (append_assoc front (call ∷ []) rest)) in (
+      let more = left_from p held fuel small stays (front ++ call ∷ []) rest (rw is (simp append_assoc)) in (
         by_whom p held fuel small stays front call.0 call.1 rest is (forget path p rest more) (call.0 == p) refl,
         more,
       )
@@ -218,25 +170,7 @@ module _ (program : ℕ) (path : List ℕ) (file : FileState) where
     subst (λ (f : FileState). IsStillAt path f.made_when calls) is.0
         (subst (λ (p : List ℕ). IsStillAt p named.made_when calls) is.1 there.0),
   )
-  its_place (Made at answer) calls is there = absurd is
-  its_place (Locked at answer) calls is there = absurd is
-  its_place (Removed at answer) calls is there = absurd is
-  its_place (Folder_opened at answer) calls is there = absurd is
-  its_place (Folder_synced at answer) calls is there = absurd is
-  its_place (Looked at answer) calls is there = absurd is
-  its_place (Followed at answer) calls is there = absurd is
-  its_place (Resolved at answer) calls is there = absurd is
-  its_place (Opened at answer) calls is there = absurd is
-  its_place (Tried at answer) calls is there = absurd is
-  its_place (Created at made) calls is there = absurd is
-  its_place (Examined answer) calls is there = absurd is
-  its_place (Given bytes) calls is there = absurd is
-  its_place (Not_given error) calls is there = absurd is
-  its_place (Sought to answer) calls is there = absurd is
-  its_place (Written bytes) calls is there = absurd is
-  its_place (Not_written error) calls is there = absurd is
-  its_place (Synced answer) calls is there = absurd is
-  its_place (Mode_set mode answer) calls is there = absurd is
+  its_place call calls is there = absurd is
 
 pub names_their_own : StoresKeepDrafts → NamesTheirOwn
 names_their_own keeps order newer older folder path program call file at naming draft stores alone =

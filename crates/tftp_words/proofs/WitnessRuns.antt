@@ -1,52 +1,51 @@
 -- The runs of the witness are programs that an honest network joined: a get, and a put.
-use Rattle.std.proofs.Common.{rules, ◌≡◌, refl, sym, ap, subst, ℕ, List, [], ◌∷◌, Some, Ok, Err, true, arith, reverse, suc}
-use Rattle.std.specs.Prelude.{◌≢◌, codes, get_or}
-use Rattle.std.proofs.lemmas.Option.{same_Some}
+use Rattle.tftp_words.proofs.Common.{rules, ◌≡◌, refl, subst, ℕ, List, [], ◌∷◌, Some, Ok, Err, true, arith, suc, ◌≢◌}
+use Rattle.tftp_words.proofs.Common.{codes, Sink, MAX_WIRE, Endpoint, Received, Sent, printed}
+use Rattle.tftp_words.proofs.Common.{local_sink, local_source, sources, stores, ArePortsFresh, our_ports, IsStranger}
+use Rattle.tftp_words.proofs.Common.{Noted, Programs, events_of, ClientProgram, ServerProgram, To_read, To_write}
+use Rattle.tftp_words.proofs.Common.{endpoint, ClientStored, ran_of, ClientSent, run_of, AllAsk, AreAllRuns, AreRunsOf}
+use Rattle.tftp_words.proofs.Common.{IsServerRan, each, honest_if, server, same_Some, ◌++◌, Result, slice_get}
+use Rattle.tftp_words.proofs.Common.{SocketEvent, Run, LoopStep, noted_at_end, LoopFault, ServesWords}
+use Rattle.std.proofs.Common.{reverse}
 use Rattle.clap.proofs.OnLiterals.{clap_on_literals}
 use Rattle.tftp_wire.specs.declared.mode.Mode.TheVariants.{Octet}
-use Rattle.tftp_negotiate.specs.Ranges.{IsBlockSize}
-use Rattle.tftp_file.specs.declared.files.Files.TheVariants.{Sink}
-use Rattle.tftp_file.specs.declared.length.TheConstants.{MAX_WIRE}
 use Rattle.tftp_ends.specs.Step.{ack_bytes, data_bytes}
 use Rattle.tftp_ends.specs.declared.backoff.Backoff.TheVariants.{Constant}
-use Rattle.tftp_ends.specs.declared.side.Side.TheVariants.{ClientRead, ClientWrite}
 use Rattle.tftp_lines.specs.ClientOutcome.{end_text}
 use Rattle.tftp_lines.specs.Printed.{line_text}
-use Rattle.tftp_lines.specs.declared.client_outcome.ClientOutcome.TheVariants as ends
 use Rattle.tftp_lines.specs.declared.printed.Printed.TheVariants.{Closed}
-use Rattle.tftp_ends.specs.declared.outcome.Outcome.TheVariants as outcomes
-use Rattle.tftp_ends.specs.declared.endpoint.Endpoint.{Endpoint}
-use Rattle.tftp_sockets.specs.Address.{Names}
-use Rattle.tftp_sockets.specs.Trace.SocketEvent.{Printed, Quiet, Received, Sent, Watched}
+use Rattle.tftp_sockets.specs.Trace.SocketEvent.{Printed, Quiet, Watched}
 use Rattle.tftp_sockets.specs.Trace.QuietEvent.{Slept}
 use Rattle.tftp_loop.specs.declared.serving.LoopFault.TheVariants.{NoReader}
 use Rattle.tftp_client.specs.Converses.HandlesReceived.{Answers}
-use Rattle.tftp_client.specs.Runs.{printed}
-use Rattle.tftp_client.specs.Witness.{get_words, local_sink, local_source, put_words}
+use Rattle.tftp_client.specs.Witness.{get_words, put_words}
+use Rattle.tftp_daemon.specs.Witness.{words, its_calls}
+use Rattle.tftp_promises.specs.ClientRuns.{ClientDoes, Goes_on, Prints_line, Reads_clock, Receives_one, Starts}
+use Rattle.tftp_promises.specs.Order.{ips}
+use Rattle.tftp_words.specs.Witness.{A_client, A_server, MeetAll}
+use Rattle.tftp_promises.proofs.TwoAlone.{Delivers, comes_from, fresh_of_two, two_alone}
+use Rattle.std.proofs.NetLemmas.Theorems.{IsSocketV4Text_unique}
+use Rattle.tftp_sockets.specs.Address.{Names}
+use Rattle.tftp_lines.specs.declared.client_outcome.ClientOutcome.TheVariants as ends
+use Rattle.tftp_ends.specs.declared.outcome.Outcome.TheVariants as outcomes
 use Rattle.tftp_client.proofs.Witness as cl
-use Rattle.tftp_daemon.specs.Witness.{sources, stores, words}
 use Rattle.tftp_daemon.proofs.WitnessFolder as fo
 use Rattle.tftp_daemon.proofs.WitnessServers as sv
-use Rattle.tftp_promises.specs.ClientRuns.{ClientDoes, Goes_on, Prints_line, Reads_clock, Receives_one, Starts}
-use Rattle.tftp_promises.specs.Openings.{ArePortsFresh, our_ports}
-use Rattle.tftp_promises.specs.Order.{IsHonest, IsStranger, Noted, Programs, events_of, ips}
-use Rattle.tftp_promises.specs.Programs.{ClientProgram, ServerProgram, To_read, To_write, endpoint}
-use Rattle.tftp_words.specs.FromDisk.{ClientStored, ran_of}
-use Rattle.tftp_words.specs.PutFromDisk.{ClientSent, run_of}
-use Rattle.tftp_words.specs.Ran.{AllAsk, AreAllRuns, AreRunsOf, IsServerRan}
-use Rattle.tftp_words.specs.Witness.{A_client, A_server, MeetAll}
-use Rattle.tftp_promises.proofs.TwoAlone.{comes_from, each, fresh_of_two, honest_if, two_alone}
-use Rattle.tftp_words.proofs.NamedServer.{names_server, server, word}
 
 -- ---- the commands
 abbrev pub client_ip : List ℕ
 client_ip = 5 ∷ 6 ∷ 7 ∷ 8 ∷ []
 
+abbrev its_server : (status : ℕ) (after : List SocketEvent) →
+    ServesWords its_calls [] stores sources words status [] after → A_server
+its_server status after ran =
+    record { ip = server.ip; words = words; status = status; before = []; after = after; ran = ran }
+
 abbrev pub get_server : A_server
-get_server = record { ip = server.ip; words = words; status = 0; before = []; after = sv.g4.events; ran = sv.serves_get }
+get_server = its_server 0 sv.g4.events sv.serves_get
 
 abbrev pub put_server : A_server
-put_server = record { ip = server.ip; words = words; status = 2; before = []; after = sv.put_events; ran = sv.serves_put }
+put_server = its_server 2 sv.put_events sv.serves_put
 
 abbrev pub get_client : ClientStored local_source local_sink
 get_client = record {
@@ -69,62 +68,75 @@ abbrev pub put_ran : A_client
 put_ran = run_of local_source local_sink put_client
 
 -- ---- what the arguments name
+one_named : (text : List ℕ) (a b : Endpoint) → Names text (Some a) → Names text (Some b) → a ≡ b
+one_named text a b first second =
+    let same = IsSocketV4Text_unique text first.0 second.0 first.1 second.1 in
+    let one = first.2 in
+    let other = second.2 in
+    let ip : a.ip ≡ b.ip = cc in
+    let port : a.port ≡ b.port = cc in
+    λ i. record { ip = ip i; port = port i }
+
+named_server : (text : List ℕ) (a : Endpoint) → Some (codes "1.2.3.4:69") ≡ Some text → Names text (Some a) → a ≡ server
+named_server text a same names =
+    one_named text a server names
+    (subst (λ (word : List ℕ). Names word (Some server)) (same_Some (codes "1.2.3.4:69") text same) cl.its_name)
+
 pub asks_get : AllAsk server (get_ran ∷ [])
 unfolding clap_on_literals
-asks_get = (
-  λ job named.
-      names_server job.server
-      (subst (λ (bytes : List ℕ). Names bytes (Some job.server)) (sym (same_Some word named.server.0 named.server.1))
-      named.server.2),
-  tt,
-)
+asks_get = (λ job named. named_server named.server.0 job.server named.server.1 named.server.2, tt)
 
 pub asks_put : AllAsk server (put_ran ∷ [])
 unfolding clap_on_literals
-asks_put = (
-  λ job named.
-      names_server job.server
-      (subst (λ (bytes : List ℕ). Names bytes (Some job.server)) (sym (same_Some word named.server.0 named.server.1))
-      named.server.2),
-  tt,
-)
+asks_put = (λ job named. named_server named.server.0 job.server named.server.1 named.server.2, tt)
 
 -- ---- the programs
 abbrev pub requests : Endpoint
 requests = endpoint server.ip 69
 
-pub agreeable : IsBlockSize 512
-agreeable = search rules
+module _ (last : sv.Loop) (run : Run (LoopStep stores sources) sv.s0 last) (noted : List SocketEvent)
+    (is_noted : last.events ≡ noted ++ sv.s0.events) where
+  abbrev its_program : ServerProgram stores sources requests
+  its_program = record {
+    start = sv.s0;
+    last = last;
+    run = run;
+    noted = noted;
+    is_noted = is_noted;
+    requests = refl;
+    empty = refl;
+    idle = refl;
+    max_block = sv.agreeable;
+  }
+
+  -- it is what the command ran
+  pub its_run : {status : ℕ} {after : List SocketEvent}
+      (ran : ServesWords its_calls [] stores sources words status [] after) (result : Result (Unit {0}) LoopFault) →
+      after ≡ noted_at_end result (noted ++ sv.s0.events) → IsServerRan (its_server status after ran) 69 its_program
+  its_run ran result is = record {
+    address = refl;
+    requests = refl;
+    config = sv.config;
+    named = sv.configured;
+    limits = refl;
+    root = fo.its_root;
+    at = server;
+    listens = refl;
+    bound = sv.is_bound;
+    begins = refl;
+    result = result;
+    noted = is;
+  }
 
 abbrev pub gives : ServerProgram stores sources requests
-gives = record {
-  start = sv.s0;
-  last = sv.g4;
-  run = sv.gets;
-  noted =
-      Printed (line_text (Closed 1024 5000 outcomes.Complete)) ∷ Received 1024 sv.getter (ack_bytes 1)
-      ∷ Sent 1024 sv.getter (data_bytes 1 (65 ∷ [])) ∷ Received 69 sv.getter sv.read_request ∷ [];
-  is_noted = refl;
-  requests = refl;
-  empty = refl;
-  idle = refl;
-  max_block = agreeable;
-}
+gives = its_program sv.g4 sv.gets (
+    Printed (line_text (Closed 1024 5000 outcomes.Complete)) ∷ Received 1024 sv.getter (ack_bytes 1)
+    ∷ Sent 1024 sv.getter (data_bytes 1 (65 ∷ [])) ∷ Received 69 sv.getter sv.read_request ∷ []) refl
 
 abbrev pub keeps : ServerProgram stores sources requests
-keeps = record {
-  start = sv.s0;
-  last = sv.p3;
-  run = sv.puts;
-  noted =
-      Sent 1024 sv.putter (ack_bytes 1) ∷ Received 1024 sv.putter (data_bytes 1 (66 ∷ []))
-      ∷ Sent 1024 sv.putter (ack_bytes 0) ∷ Received 69 sv.putter sv.write_request ∷ [];
-  is_noted = refl;
-  requests = refl;
-  empty = refl;
-  idle = refl;
-  max_block = agreeable;
-}
+keeps = its_program sv.p3 sv.puts (
+    Sent 1024 sv.putter (ack_bytes 1) ∷ Received 1024 sv.putter (data_bytes 1 (66 ∷ []))
+    ∷ Sent 1024 sv.putter (ack_bytes 0) ∷ Received 69 sv.putter sv.write_request ∷ []) refl
 
 unfoldable pub stores_does : ClientDoes local_source local_sink 5000 cl.s0 (Sink cl.new_local) cl.s1 (Sink cl.stored_local)
 stores_does =
@@ -204,63 +216,17 @@ putting = record {
 
 -- ---- they are what the commands ran
 pub gives_ran : IsServerRan get_server 69 gives
-unfolding sv.serves_get
-gives_ran = record {
-  address = refl;
-  requests = refl;
-  config = sv.config;
-  named = sv.configured;
-  limits = refl;
-  root = fo.its_root;
-  at = server;
-  listens = refl;
-  bound = sv.is_bound;
-  begins = refl;
-  result = Ok tt;
-  noted = refl;
-}
+gives_ran = its_run sv.g4 sv.gets gives.noted refl sv.serves_get (Ok tt) refl
 
 pub keeps_ran : IsServerRan put_server 69 keeps
-keeps_ran = record {
-  address = refl;
-  requests = refl;
-  config = sv.config;
-  named = sv.configured;
-  limits = refl;
-  root = fo.its_root;
-  at = server;
-  listens = refl;
-  bound = sv.is_bound;
-  begins = refl;
-  result = Err NoReader;
-  noted = refl;
-}
+keeps_ran = its_run sv.p3 sv.puts keeps.noted refl sv.serves_put (Err NoReader) refl
 
 pub gets_of : AreRunsOf get_ran (getting ∷ [])
 unfolding cl.get_stored cl.get_runs cl.stores_so stores_does
 gets_of = record {
   noted = (refl, refl);
-  each = (
-    record {
-      address = refl;
-      job = cl.get_job;
-      named = cl.get_named;
-      runs = record { name = refl; mode = refl; side = refl };
-    },
-    tt,
-  );
-  last = (
-    [],
-    getting,
-    refl,
-    record { name = refl; mode = refl; side = refl },
-    record {
-      complete = refl;
-      received = λ e. refl;
-      sent = λ e. absurd (let f : ClientRead ≡ ClientWrite = e in cc);
-    },
-    refl,
-  );
+  each = (record { address = refl; job = cl.get_job; named = cl.get_named; runs = search rules }, tt);
+  last = ([], getting, refl, search rules, search rules, refl);
   stopped = tt;
 }
 
@@ -275,27 +241,8 @@ putting_ran = (
   refl,
   record {
     noted = (refl, refl);
-    each = (
-      record {
-        address = refl;
-        job = cl.put_job;
-        named = cl.put_named;
-        runs = record { name = refl; mode = refl; side = refl };
-      },
-      tt,
-    );
-    last = (
-      [],
-      putting,
-      refl,
-      record { name = refl; mode = refl; side = refl },
-      record {
-        complete = refl;
-        received = λ e. absurd (let f : ClientWrite ≡ ClientRead = e in cc);
-        sent = λ e octet. refl;
-      },
-      refl,
-    );
+    each = (record { address = refl; job = cl.put_job; named = cl.put_named; runs = search rules }, tt);
+    last = ([], putting, refl, search rules, search rules, refl);
     stopped = tt;
   },
   refl,
@@ -309,29 +256,57 @@ abbrev pub with_server : ServerProgram stores sources requests → ClientProgram
 with_server s c = two_alone server.ip 69 s c
 
 pub away : client_ip ≢ server.ip
-away e = let n = ap (λ (ip : List ℕ). get_or ip 0 0) e in absurd (omega (arith, n))
+away = search rules
 
 pub fresh_with : (s : ServerProgram stores sources requests) (c : ClientProgram local_source local_sink requests) →
     our_ports (with_server s c) s.run ≡ 1024 ∷ [] → c.ip ≢ server.ip → ArePortsFresh (with_server s c)
 fresh_with s c = fresh_of_two server.ip 69 s c 1024 (λ e. absurd (omega (arith, e)))
 
+-- ---- the orders of their events, by the numbers of the server and the client, and what they deliver
+abbrev pub get_order : (server client : ℕ) → List Noted
+get_order s c = reverse (
+    (c, Sent 5000 requests sv.read_request) ∷ (s, Received 69 sv.getter sv.read_request)
+    ∷ (s, Sent 1024 sv.getter (data_bytes 1 (65 ∷ []))) ∷ (c, Quiet (Slept 1000))
+    ∷ (c, Received 5000 cl.answers_from (data_bytes 1 (65 ∷ []))) ∷ (c, Watched cl.at_10)
+    ∷ (c, Sent 5000 cl.answers_from (ack_bytes 1)) ∷ (c, Watched cl.at_10) ∷ (c, Printed (end_text (ends.Complete 1)))
+    ∷ (s, Received 1024 sv.getter (ack_bytes 1)) ∷ (s, Printed (line_text (Closed 1024 5000 outcomes.Complete))) ∷ [])
+
+abbrev pub put_order : (server client : ℕ) → List Noted
+put_order s c = reverse (
+    (c, Sent 5001 requests sv.write_request) ∷ (s, Received 69 sv.putter sv.write_request)
+    ∷ (s, Sent 1024 sv.putter (ack_bytes 0)) ∷ (c, Quiet (Slept 1000)) ∷ (c, Received 5001 cl.answers_from (ack_bytes 0))
+    ∷ (c, Watched cl.at_10) ∷ (c, Sent 5001 cl.answers_from (data_bytes 1 (66 ∷ []))) ∷ (c, Watched cl.at_10)
+    ∷ (s, Received 1024 sv.putter (data_bytes 1 (66 ∷ []))) ∷ (s, Sent 1024 sv.putter (ack_bytes 1)) ∷ (c, Quiet (Slept 1000))
+    ∷ (c, Received 5001 cl.answers_from (ack_bytes 1)) ∷ (c, Watched cl.at_20) ∷ (c, Watched cl.at_20)
+    ∷ (c, Printed (end_text (ends.Complete 1))) ∷ [])
+
+module _ (ips : List (List ℕ)) (Strange : Endpoint → Type 0) (s c : ℕ) (at_server : slice_get ips s ≡ Some server.ip)
+    (at_client : slice_get ips c ≡ Some client_ip) (earlier : List Noted) (delivers : Delivers ips Strange earlier) where
+  pub get_delivers : Delivers ips Strange (get_order s c ++ earlier)
+  get_delivers = (
+    comes_from ips Strange c s at_client at_server (2, omega arith, refl),
+    (
+      comes_from ips Strange s c at_server at_client (1, omega arith, refl),
+      (comes_from ips Strange c s at_client at_server (0, omega arith, refl), delivers),
+    ),
+  )
+
+  pub put_delivers : Delivers ips Strange (put_order s c ++ earlier)
+  put_delivers = (
+    comes_from ips Strange s c at_server at_client (1, omega arith, refl),
+    (
+      comes_from ips Strange c s at_client at_server (1, omega arith, refl),
+      (
+        comes_from ips Strange s c at_server at_client (1, omega arith, refl),
+        (comes_from ips Strange c s at_client at_server (0, omega arith, refl), delivers),
+      ),
+    ),
+  )
+
 -- ---- the get
-abbrev pub get_order : List Noted
-get_order = reverse (
-    (1, Sent 5000 requests sv.read_request) ∷ (0, Received 69 sv.getter sv.read_request)
-    ∷ (0, Sent 1024 sv.getter (data_bytes 1 (65 ∷ []))) ∷ (1, Quiet (Slept 1000))
-    ∷ (1, Received 5000 cl.answers_from (data_bytes 1 (65 ∷ []))) ∷ (1, Watched cl.at_10)
-    ∷ (1, Sent 5000 cl.answers_from (ack_bytes 1)) ∷ (1, Watched cl.at_10) ∷ (1, Printed (end_text (ends.Complete 1)))
-    ∷ (0, Received 1024 sv.getter (ack_bytes 1)) ∷ (0, Printed (line_text (Closed 1024 5000 outcomes.Complete))) ∷ [])
 
 abbrev pub got : Both
 got = with_server gives getting
-
-pub get_honest : IsHonest got get_order
-get_honest = honest_if (ips got) (IsStranger got) get_order (
-  comes_from (ips got) (IsStranger got) 1 0 refl refl (2, omega arith, refl),
-  (comes_from (ips got) (IsStranger got) 0 1 refl refl (1, omega arith, refl), (comes_from (ips got) (IsStranger got) 1 0 refl refl (0, omega arith, refl), tt)),
-)
 
 pub get_ports : our_ports got sv.gets ≡ 1024 ∷ []
 unfolding sv.asks_to_read sv.opens_read sv.completes_read sv.closes_read sv.handles
@@ -346,33 +321,16 @@ get_meets = record {
   ask = asks_get;
   programs = got;
   are_ran = record { of_server = gives_ran; of_clients = getting_ran; alone = refl };
-  order = get_order;
-  is_order = record { server = refl; clients = each getting (λ k c. events_of (suc k) get_order ≡ c.noted) refl };
-  honest = get_honest;
+  order = get_order 0 1;
+  is_order = record { server = refl; clients = each getting (λ k c. events_of (suc k) (get_order 0 1) ≡ c.noted) refl };
+  honest =
+      honest_if (ips got) (IsStranger got) (get_order 0 1) (get_delivers (ips got) (IsStranger got) 0 1 refl refl [] tt);
   fresh = fresh_with gives getting get_ports away;
 }
 
 -- ---- the put
-abbrev pub put_order : List Noted
-put_order = reverse (
-    (1, Sent 5001 requests sv.write_request) ∷ (0, Received 69 sv.putter sv.write_request)
-    ∷ (0, Sent 1024 sv.putter (ack_bytes 0)) ∷ (1, Quiet (Slept 1000)) ∷ (1, Received 5001 cl.answers_from (ack_bytes 0))
-    ∷ (1, Watched cl.at_10) ∷ (1, Sent 5001 cl.answers_from (data_bytes 1 (66 ∷ []))) ∷ (1, Watched cl.at_10)
-    ∷ (0, Received 1024 sv.putter (data_bytes 1 (66 ∷ []))) ∷ (0, Sent 1024 sv.putter (ack_bytes 1)) ∷ (1, Quiet (Slept 1000))
-    ∷ (1, Received 5001 cl.answers_from (ack_bytes 1)) ∷ (1, Watched cl.at_20) ∷ (1, Watched cl.at_20)
-    ∷ (1, Printed (end_text (ends.Complete 1))) ∷ [])
-
 abbrev pub put : Both
 put = with_server keeps putting
-
-pub put_honest : IsHonest put put_order
-put_honest = honest_if (ips put) (IsStranger put) put_order (
-  comes_from (ips put) (IsStranger put) 0 1 refl refl (1, omega arith, refl),
-  (
-    comes_from (ips put) (IsStranger put) 1 0 refl refl (1, omega arith, refl),
-    (comes_from (ips put) (IsStranger put) 0 1 refl refl (1, omega arith, refl), (comes_from (ips put) (IsStranger put) 1 0 refl refl (0, omega arith, refl), tt)),
-  ),
-)
 
 pub put_ports : our_ports put sv.puts ≡ 1024 ∷ []
 unfolding sv.asks_to_write sv.opens_write sv.stores_write sv.handles
@@ -387,8 +345,9 @@ put_meets = record {
   ask = asks_put;
   programs = put;
   are_ran = record { of_server = keeps_ran; of_clients = putting_ran; alone = refl };
-  order = put_order;
-  is_order = record { server = refl; clients = each putting (λ k c. events_of (suc k) put_order ≡ c.noted) refl };
-  honest = put_honest;
+  order = put_order 0 1;
+  is_order = record { server = refl; clients = each putting (λ k c. events_of (suc k) (put_order 0 1) ≡ c.noted) refl };
+  honest =
+      honest_if (ips put) (IsStranger put) (put_order 0 1) (put_delivers (ips put) (IsStranger put) 0 1 refl refl [] tt);
   fresh = fresh_with keeps putting put_ports away;
 }

@@ -1,33 +1,22 @@
 -- What `tftpd` and each `tftp` ran for their words are programs of a network.
-use Rattle.std.proofs.Common.{◌≡◌, ℕ, List, [], ◌∷◌, ◌++◌, Some, None, Result, refl, sym, ap, ◌∙◌, subst, inl, inr}
-use Rattle.std.proofs.lemmas.Option.{same_Some}
-use Rattle.std.specs.String.{string_bytes}
+use Rattle.tftp_words.proofs.Common.{◌≡◌, ℕ, List, [], ◌∷◌, ◌++◌, Some, None, Result, refl, sym, ap, ◌∙◌, subst, inl}
+use Rattle.tftp_words.proofs.Common.{inr, same_Some, string_bytes, SinkMeaning, SourceMeaning, Endpoint, StoreMeaning}
+use Rattle.tftp_words.proofs.Common.{LoopState, noted_at_end, LoopFault, FolderStore, DiskEvent, ServesWords}
+use Rattle.tftp_words.proofs.Common.{ClientsArePrograms, Noted, Programs, ClientProgram, ServerProgram, endpoint}
+use Rattle.tftp_words.proofs.Common.{Several, AllAsk, AreAllRuns, ClientRan, IsServerRan, HoldsOfOne, HoldsOfSeveral}
+use Rattle.tftp_words.proofs.Common.{ServerRan}
 use Rattle.tftp_negotiate.specs.Ranges.{IsBlockSize}
-use Rattle.tftp_file.specs.Sink.{SinkMeaning}
-use Rattle.tftp_file.specs.Source.{SourceMeaning}
-use Rattle.tftp_ends.specs.declared.endpoint.Endpoint.{Endpoint}
-use Rattle.tftp_store.specs.Store.{StoreMeaning}
 use Rattle.tftp_server.specs.State.{ServerState}
 use Rattle.tftp_server.specs.declared.config.Config.{Config}
 use Rattle.tftp_sockets.specs.Bound.{IsBoundTo}
-use Rattle.tftp_loop.specs.Steps.{LoopState, at_start}
-use Rattle.tftp_loop.specs.LoopStates.{noted_at_end}
+use Rattle.tftp_loop.specs.Steps.{at_start}
 use Rattle.tftp_loop.specs.WholeRun.{RunsServer, RunsServerFrom, Unbound, Bound, listening}
-use Rattle.tftp_loop.specs.declared.serving.LoopFault.{LoopFault}
-use Rattle.tftp_folder.specs.declared.folder_store.FolderStore.{FolderStore}
-use Rattle.tftp_disk.specs.DiskTrace.{DiskEvent}
 use Rattle.tftp_folder.specs.Opened.{IsRootOf}
-use Rattle.tftp_daemon.specs.Configured.{IsServerOf, ListensAt, ServesWords, service_at}
+use Rattle.tftp_daemon.specs.Configured.{IsServerOf, ListensAt, service_at}
 use Rattle.tftp_daemon.specs.Words.{WordsConfigure}
-use Rattle.tftp_promises.specs.ClientPrograms.{ClientsArePrograms}
-use Rattle.tftp_promises.specs.Joined.{ProgramsKeepAnyFiles, ServersAloneAreJoined}
-use Rattle.tftp_promises.specs.Alone.{EachKeepsAnyFiles, OthersHaveNothing}
-use Rattle.tftp_promises.specs.Order.{Programs}
-use Rattle.tftp_promises.specs.Programs.{ClientProgram, ServerProgram, ServersAreRuns, endpoint}
-use Rattle.tftp_promises.specs.Several.{Several}
-use Rattle.tftp_words.specs.Ran.{AllAsk, AllServe, AreAllRuns, AreServersRan, ClientRan, DaemonConfig, IsServerRan}
-use Rattle.tftp_words.specs.Ran.{ServerRan, bound_by, bound_in, port_of}
-use Rattle.tftp_words.specs.WordsKept.{SeveralKeepAnyFiles, WordsKeepAnyFiles}
+use Rattle.tftp_promises.specs.Joined.{AreJoined, ServersAloneAreJoined}
+use Rattle.tftp_promises.specs.Programs.{ServersAreRuns}
+use Rattle.tftp_words.specs.Ran.{AllServe, AreServersRan, DaemonConfig, bound_by, bound_in, port_of}
 use Rattle.tftp_words.proofs.ClientMade.{client_made}
 
 -- ---- the clients
@@ -112,32 +101,35 @@ module _ {R G H W F D : Type 0} {log : R → List DiskEvent} {stores : StoreMean
       let rest = servers_made servers serve.1 in
       (own.0 ∷ rest.0, (own.0, rest.0, refl, own.1, rest.1))
 
-module _ {R G H W F D I K : Type 0} (log : R → List DiskEvent) (stores : StoreMeaning (FolderStore R G H W) D)
-    (sources : SourceMeaning F) (inputs : SourceMeaning I) (outputs : SinkMeaning K) (are_runs : ServersAreRuns stores sources)
+-- ---- what holds of all joined programs holds of those that commands ran
+module _ {R G H W F D I K : Type 0} {log : R → List DiskEvent} {stores : StoreMeaning (FolderStore R G H W) D}
+    {sources : SourceMeaning F} {inputs : SourceMeaning I} {outputs : SinkMeaning K} (are_runs : ServersAreRuns stores sources)
     (are_programs : ClientsArePrograms inputs outputs) where
-  pub words_keep : ProgramsKeepAnyFiles stores sources inputs outputs →
-      ServersAloneAreJoined stores sources inputs outputs → WordsKeepAnyFiles log stores sources inputs outputs
-  words_keep keep join server port clients bound asks =
+  pub one_holds : (Holds : Programs stores sources inputs outputs → Type 0) →
+      ((programs : Programs stores sources inputs outputs) (order : List Noted) → AreJoined programs order →
+      Holds programs) →
+      ServersAloneAreJoined stores sources inputs outputs → (server : ServerRan log stores sources) (port : ℕ)
+      (clients : List (ClientRan inputs outputs)) → HoldsOfOne server port clients Holds
+  one_holds Holds holds join server port clients bound asks =
       let of_server = server_made are_runs server server.ip refl port bound in
       let of_clients = all_made are_programs (endpoint server.ip port) clients asks in
       let programs : Programs stores sources inputs outputs =
       record { ip = server.ip; port = port; server = of_server.0; others = []; clients = of_clients.0 } in (
         programs,
         record { of_server = of_server.1; of_clients = of_clients.1; alone = refl },
-        λ order is_order honest fresh. keep programs order (join programs order refl is_order honest fresh),
+        λ order is_order honest fresh. holds programs order (join programs order refl is_order honest fresh),
       )
 
-  pub several_keep : EachKeepsAnyFiles stores sources inputs outputs →
-      OthersHaveNothing stores sources inputs outputs → SeveralKeepAnyFiles log stores sources inputs outputs
-  several_keep keep others ip port servers clients serve asks =
+  pub several_hold : (Holds : Several stores sources inputs outputs → List Noted → Type 0) →
+      ((several : Several stores sources inputs outputs) (order : List Noted) → Holds several order) → (ip : List ℕ)
+      (port : ℕ) (servers : List (ServerRan log stores sources)) (clients : List (ClientRan inputs outputs)) →
+      HoldsOfSeveral ip port servers clients Holds
+  several_hold Holds holds ip port servers clients serve asks =
       let of_servers = servers_made are_runs ip port servers serve in
       let of_clients = all_made are_programs (endpoint ip port) clients asks in
       let several : Several stores sources inputs outputs =
       record { ip = ip; port = port; servers = of_servers.0; clients = of_clients.0 } in (
         several,
         record { of_servers = of_servers.1; of_clients = of_clients.1 },
-        λ order i server k client at_i found. (
-          λ served. keep several order i server k client at_i found served,
-          λ over. (others several order i server k client at_i found over).1,
-        ),
+        holds several,
       )

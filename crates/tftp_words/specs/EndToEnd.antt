@@ -1,45 +1,35 @@
 -- From end to end: what a complete get was handed is just what its server's source gave, and what a
 -- complete put sent is just what its server's draft took, which was committed.
+use Rattle.tftp_words.specs.Common.{wire_text, SinkMeaning, SourceMeaning, Files, Source, Sink}
+use Rattle.tftp_words.specs.Common.{DiskEvent, StoreMeaning, SocketEvent, RunsWords, moved_by}
+use Rattle.tftp_words.specs.Common.{FolderStore, KeepAnyFiles, moved_in, Programs}
 use Rattle.std.specs.Prelude.{ℕ, ◌≡◌, List, length, slice_get, Some, Ok}
 use Rattle.std.specs.List.{AllByRecursion}
 use Rattle.std.proofs.Common.{inl, inr}
 use Rattle.tftp_wire.specs.declared.mode.Mode.TheVariants.{Octet}
-use Rattle.tftp_file.specs.Netascii.{wire_text}
 use Rattle.tftp_file.specs.Path.{path_of_name}
-use Rattle.tftp_file.specs.Sink.{SinkMeaning}
-use Rattle.tftp_file.specs.Source.{SourceMeaning, GivesInTurn}
-use Rattle.tftp_file.specs.declared.files.Files.{Files}
-use Rattle.tftp_file.specs.declared.files.Files.TheVariants.{Source, Sink}
-use Rattle.tftp_disk.specs.DiskTrace.{DiskEvent}
-use Rattle.tftp_store.specs.Store.{StoreMeaning}
+use Rattle.tftp_file.specs.Source.{GivesInTurn}
 use Rattle.tftp_store.specs.declared.store.Opening.{Opening}
-use Rattle.tftp_sockets.specs.Trace.{SocketEvent}
-use Rattle.tftp_client.specs.Ordered.{RunsOrder, RunsWords}
-use Rattle.tftp_client.specs.Runs.{moved_by}
-use Rattle.tftp_folder.specs.declared.folder_store.FolderStore.{FolderStore}
-use Rattle.tftp_promises.specs.AnyFiles.{HasGot, HasPut, KeepAnyFiles}
-use Rattle.tftp_promises.specs.ClientRuns.{moved_in}
+use Rattle.tftp_promises.specs.AnyFiles.{HasGot, HasPut}
 use Rattle.tftp_promises.specs.Drafts.{HadStore, StoreBegan, WasCommitted}
 use Rattle.tftp_promises.specs.Given.{StoreOpened}
-use Rattle.tftp_promises.specs.Openings.{ArePortsFresh}
-use Rattle.tftp_promises.specs.Order.{IsHonest, IsOrder, Noted, Programs, ClientOf}
-use Rattle.tftp_promises.specs.Programs.{endpoint}
-use Rattle.tftp_words.specs.Ran.{AllAsk, AreRan, ClientRan, Job, ServerRan, port_of}
+use Rattle.tftp_promises.specs.Order.{ClientOf}
+use Rattle.tftp_words.specs.Ran.{ClientRan, HoldsOfOne, Job, ServerRan}
 
 module _ {G K : Type 0} (inputs : SourceMeaning G) (outputs : SinkMeaning K)
     (Holds : Job → Files G K → ℕ → List ℕ → Type 0) where
-  -- of a complete job: this holds of its file, of N of its line, and of what moved in its run
-  abbrev pub OrderComplete : (job : Job) (status : ℕ) (before after : List SocketEvent)
-      → RunsOrder inputs outputs job status before after → Type 0
-  OrderComplete job status before after (inl done) =
-      Holds job done.1.files done.1.count (moved_by inputs outputs done.1.transfers).bytes
-  OrderComplete job status before after (inr failed) = Unit {0}
-
-  -- the same of the job that words name
+  -- of the job that words name, if it is complete: this holds of its file, of N of its line, and of
+  -- what moved in its run
   abbrev pub WordsComplete : (words : List (List ℕ)) (status : ℕ) (before after : List SocketEvent)
       → RunsWords inputs outputs words status before after → Type 0
   WordsComplete words status before after (inl none) = Unit {0}
-  WordsComplete words status before after (inr did) = OrderComplete did.0 status before after did.2
+  WordsComplete words status before after (inr (job, named, inl done)) =
+      Holds job done.1.files done.1.count (moved_by inputs outputs done.1.transfers).bytes
+  WordsComplete words status before after (inr (job, named, inr failed)) = Unit {0}
+
+  -- the same of the job of a run of `tftp`
+  abbrev pub RanComplete : ClientRan inputs outputs → Type 0
+  RanComplete ran = WordsComplete ran.words ran.status ran.before ran.after ran.ran
 
 module _ {S F D G K : Type 0} {stores : StoreMeaning S D} {sources : SourceMeaning F}
     {inputs : SourceMeaning G} {outputs : SinkMeaning K}
@@ -99,20 +89,16 @@ module _ {S F D G K : Type 0} {stores : StoreMeaning S D} {sources : SourceMeani
   FileDone job (Sink sink) count bytes = GotFile job count bytes
 
   abbrev pub HasDone : ClientRan inputs outputs → Type 0
-  HasDone ran =
-      WordsComplete inputs outputs FileDone ran.words ran.status ran.before ran.after ran.ran
+  HasDone = RanComplete inputs outputs FileDone
 
--- a run of `tftpd` whose request port was bound, and runs of `tftp` whose arguments name that
--- server: there are programs with just these traces. In whatever order an honest network joined
--- them, if their ports are fresh, they keep the promises; what the file of a complete get was
--- handed is just what the server's source gave, and what that of a complete put gave is just what
--- the server's draft took before a commit of it succeeded
-abbrev pub WordsMoveFiles : {R G H W F D I K : Type 0} (log : R → List DiskEvent)
-    (stores : StoreMeaning (FolderStore R G H W) D) (sources : SourceMeaning F) (inputs : SourceMeaning I) (outputs : SinkMeaning K) → Type 0
-WordsMoveFiles log stores sources inputs outputs =
-    (server : ServerRan log stores sources) (port : ℕ) (clients : List (ClientRan inputs outputs))
-    → port_of server ≡ Some port → AllAsk (endpoint server.ip port) clients
-    → (programs : Programs stores sources inputs outputs) × AreRan server port clients programs
-    × ((order : List Noted) → IsOrder programs order
-    → IsHonest programs order → ArePortsFresh programs
-    → KeepAnyFiles programs × AllByRecursion (HasDone programs) clients)
+module _ {R G H W F D I K : Type 0} (log : R → List DiskEvent)
+    (stores : StoreMeaning (FolderStore R G H W) D) (sources : SourceMeaning F)
+    (inputs : SourceMeaning I) (outputs : SinkMeaning K) where
+  -- the programs that `tftpd` and `tftp` ran keep the promises; what the file of a complete get was
+  -- handed is just what the server's source gave, and what that of a complete put gave is just what
+  -- the server's draft took before a commit of it succeeded
+  abbrev pub WordsMoveFiles : Type 0
+  WordsMoveFiles =
+      (server : ServerRan log stores sources) (port : ℕ) (clients : List (ClientRan inputs outputs))
+      → HoldsOfOne server port clients
+      (λ programs. KeepAnyFiles programs × AllByRecursion (HasDone programs) clients)

@@ -1,31 +1,19 @@
 -- From disk to disk: a complete get has named a file of just the bytes that reads of ROOT/NAME
 -- returned at its server.
-use Rattle.std.specs.Prelude.{ℕ, ◌≡◌, List, [], length, map, Some}
+use Rattle.tftp_words.specs.Common.{wire_text, SinkMeaning, SourceMeaning, Files, Source, Sink}
+use Rattle.tftp_words.specs.Common.{StoreMeaning, SocketEvent, LocalFile, DiskEvent, FolderSource}
+use Rattle.tftp_words.specs.Common.{FolderStore, KeepAnyFiles, Programs}
+use Rattle.std.specs.Prelude.{ℕ, List, [], length, map}
 use Rattle.std.specs.List.{AllByRecursion}
+use Rattle.tftp_client.specs.OnDisk.{IsStored, StoresWords}
+use Rattle.tftp_disk.specs.DiskSourceLaws.{GivenInOrder}
+use Rattle.tftp_folder.specs.Source.{OpensSource, text_of}
+use Rattle.tftp_words.specs.EndToEnd.{GotFile, PutFile, RanComplete}
+use Rattle.tftp_words.specs.Ran.{ClientRan, HoldsOfOne, Job, ServerRan, root_of}
 use Rattle.std.specs.declared.io.traits.Read as read
 use Rattle.std.specs.declared.io.traits.Write as write
 use Rattle.std.specs.declared.io.traits.Seek as seek
-use Rattle.tftp_file.specs.Netascii.{wire_text}
-use Rattle.tftp_file.specs.Sink.{SinkMeaning}
-use Rattle.tftp_file.specs.Source.{SourceMeaning}
-use Rattle.tftp_file.specs.declared.files.Files.{Files}
-use Rattle.tftp_file.specs.declared.files.Files.TheVariants.{Source, Sink}
-use Rattle.tftp_store.specs.Store.{StoreMeaning}
-use Rattle.tftp_sockets.specs.Trace.{SocketEvent}
-use Rattle.tftp_client.specs.OnDisk.{IsStored, StoresWords}
-use Rattle.tftp_client.specs.declared.local.LocalFile.{LocalFile}
-use Rattle.tftp_disk.specs.DiskTrace.{DiskEvent}
 use Rattle.tftp_disk.specs.declared.disk.Looks as looks
-use Rattle.tftp_disk.specs.DiskSourceLaws.{GivenInOrder}
-use Rattle.tftp_folder.specs.Source.{OpensSource, text_of}
-use Rattle.tftp_folder.specs.declared.folder_source.FolderSource.{FolderSource}
-use Rattle.tftp_folder.specs.declared.folder_store.FolderStore.{FolderStore}
-use Rattle.tftp_promises.specs.AnyFiles.{KeepAnyFiles}
-use Rattle.tftp_promises.specs.Openings.{ArePortsFresh}
-use Rattle.tftp_promises.specs.Order.{IsHonest, IsOrder, Noted, Programs}
-use Rattle.tftp_promises.specs.Programs.{endpoint}
-use Rattle.tftp_words.specs.EndToEnd.{GotFile, PutFile, WordsComplete}
-use Rattle.tftp_words.specs.Ran.{AllAsk, AreRan, ClientRan, Job, ServerRan, port_of, root_of}
 
 module _ {S D F U I : Type 0} {logs : looks.Ghosts D} {writes : write.Ghosts F}
     {views : looks.Ghosts U} {reads : read.Ghosts I} {seeks : seek.Ghosts I}
@@ -57,10 +45,10 @@ module _ {S D F U I : Type 0} {logs : looks.Ghosts D} {writes : write.Ghosts F}
       {stores : StoreMeaning (FolderStore R G H W) B} {sources : SourceMeaning (FolderSource V E)}
       (programs : Programs stores sources inputs outputs) where
     -- a complete get: a file of just these bytes was made, written, synced and then named. The
-    -- server's store found a file at the path of the name in its folder, opened it there, and stated
-    -- the length of their wire text by what the system said of it. That text is a beginning of what
-    -- reads of the file returned, in order from its first byte, and all but what the source still
-    -- has, unless a read failed
+    -- server's store found a file at the path of the name in its folder, opened it there, and
+    -- stated the length of their wire text by what the system said of it. That text is a beginning
+    -- of what reads of the file returned, in order from its first byte, and all but what the source
+    -- still has, unless a read failed
     pub record IsGot (calls : List DiskEvent) (job : Job) (count : ℕ) (bytes : List ℕ)
         : Type 0 where
       pub stored : IsStored job bytes calls
@@ -77,22 +65,14 @@ module _ {S D F U I : Type 0} {logs : looks.Ghosts D} {writes : write.Ghosts F}
     FileReaches calls job (Sink local) count bytes = IsGot calls job count bytes
 
     abbrev pub ReachesDisk : ClientStored → Type 0
-    ReachesDisk client =
-        WordsComplete inputs outputs (FileReaches client.calls) client.words client.status client.before
-        client.after client.stored.0
+    ReachesDisk client = RanComplete inputs outputs (FileReaches client.calls) (ran_of client)
 
-  -- a run of `tftpd` whose request port was bound, and runs of `tftp` whose arguments name that
-  -- server: there are programs with just these traces. In whatever order an honest network joined
-  -- them, if their ports are fresh, they keep the promises, and each file that a complete get named
-  -- has just the bytes that reads of the file of its name in the server's folder returned
+  -- the programs that `tftpd` and `tftp` ran keep the promises, and each file that a complete get
+  -- named has just the bytes that reads of the file of its name in the server's folder returned
   abbrev pub FromDiskToDisk : {R G H W V E B : Type 0} (log : R → List DiskEvent)
       (looked : V → List DiskEvent) (stores : StoreMeaning (FolderStore R G H W) B)
       (sources : SourceMeaning (FolderSource V E)) → Type 0
   FromDiskToDisk log looked stores sources =
       (server : ServerRan log stores sources) (port : ℕ) (clients : List ClientStored)
-      → port_of server ≡ Some port → AllAsk (endpoint server.ip port) (map ran_of clients)
-      → (programs : Programs stores sources inputs outputs)
-      × AreRan server port (map ran_of clients) programs
-      × ((order : List Noted) → IsOrder programs order
-      → IsHonest programs order → ArePortsFresh programs
-      → KeepAnyFiles programs × AllByRecursion (ReachesDisk looked programs) clients)
+      → HoldsOfOne server port (map ran_of clients)
+      (λ programs. KeepAnyFiles programs × AllByRecursion (ReachesDisk looked programs) clients)

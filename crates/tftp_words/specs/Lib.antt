@@ -1,3 +1,4 @@
+pub mod Common
 pub mod Ran
 pub mod Witness
 pub mod WordsKept

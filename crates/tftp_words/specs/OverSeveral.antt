@@ -1,20 +1,12 @@
 -- From end to end with several servers at one address: what holds of a complete job with the server
 -- whose answer its client took (RFC 1350, section 4).
+use Rattle.tftp_words.specs.Common.{SinkMeaning, SourceMeaning, Files, DiskEvent, StoreMeaning}
+use Rattle.tftp_words.specs.Common.{FolderStore, IsServed, alone, KeepAnyFiles, Noted, Programs}
+use Rattle.tftp_words.specs.Common.{Several, OneServer, OneClient}
 use Rattle.std.specs.Prelude.{ℕ, ◌≡◌, List, slice_get, Some}
 use Rattle.std.specs.List.{AllByRecursion}
-use Rattle.tftp_file.specs.Sink.{SinkMeaning}
-use Rattle.tftp_file.specs.Source.{SourceMeaning}
-use Rattle.tftp_file.specs.declared.files.Files.{Files}
-use Rattle.tftp_disk.specs.DiskTrace.{DiskEvent}
-use Rattle.tftp_store.specs.Store.{StoreMeaning}
-use Rattle.tftp_folder.specs.declared.folder_store.FolderStore.{FolderStore}
-use Rattle.tftp_promises.specs.Alone.{IsServed, alone}
-use Rattle.tftp_promises.specs.AnyFiles.{KeepAnyFiles}
-use Rattle.tftp_promises.specs.Order.{Noted, Programs}
-use Rattle.tftp_promises.specs.Programs.{endpoint}
-use Rattle.tftp_promises.specs.Several.{Several, OneServer, OneClient}
-use Rattle.tftp_words.specs.EndToEnd.{FileDone, WordsComplete}
-use Rattle.tftp_words.specs.Ran.{AllAsk, AllServe, AreSeveralRan, ClientRan, IsRunFor, Job, ServerRan}
+use Rattle.tftp_words.specs.EndToEnd.{FileDone, RanComplete}
+use Rattle.tftp_words.specs.Ran.{ClientRan, HoldsOfSeveral, IsRunFor, Job, ServerRan}
 
 module _ {S F D G K : Type 0} {stores : StoreMeaning S D} {sources : SourceMeaning F}
     {inputs : SourceMeaning G} {outputs : SinkMeaning K}
@@ -31,28 +23,24 @@ module _ {S F D G K : Type 0} {stores : StoreMeaning S D} {sources : SourceMeani
         slice_get several.servers i ≡ Some server → IsServed several order i server k client →
         KeepAnyFiles (alone several i server client) × Holds (alone several i server client)
 
-  -- of a complete job, in whose run these bytes moved: its file moved between the client and its
-  -- server
-  abbrev pub FileDoneThere : Job → Files G K → ℕ → List ℕ → Type 0
-  FileDoneThere job files count bytes =
-      DoneWithServer (λ programs. FileDone programs job files count bytes) job
+  -- of a complete job, in whose run these bytes moved: this holds of its file with its server
+  abbrev pub FileThere : (Programs stores sources inputs outputs → Job → Files G K → ℕ → List ℕ
+      → Type 0) → Job → Files G K → ℕ → List ℕ → Type 0
+  FileThere Holds job files count bytes =
+      DoneWithServer (λ programs. Holds programs job files count bytes) job
 
   abbrev pub HasDoneThere : ClientRan inputs outputs → Type 0
-  HasDoneThere ran =
-      WordsComplete inputs outputs FileDoneThere ran.words ran.status ran.before ran.after ran.ran
+  HasDoneThere = RanComplete inputs outputs (FileThere FileDone)
 
--- each `tftpd` ran its words at one address, and the request ports were bound to one port; each
--- `tftp` ran others, which name that: then there are programs that noted just that, and in whatever
--- order an honest network joined them, what the file of a complete get was handed is just what the
--- source of the server gave that serves it, and what that of a complete put gave is just what the
--- draft of that server took before a commit of it succeeded
-abbrev pub SeveralMoveFiles : {R G H W F D I K : Type 0} (log : R → List DiskEvent)
+module _ {R G H W F D I K : Type 0} (log : R → List DiskEvent)
     (stores : StoreMeaning (FolderStore R G H W) D) (sources : SourceMeaning F)
-    (inputs : SourceMeaning I) (outputs : SinkMeaning K) → Type 0
-SeveralMoveFiles log stores sources inputs outputs =
-    (ip : List ℕ) (port : ℕ) (servers : List (ServerRan log stores sources))
-    (clients : List (ClientRan inputs outputs))
-    → AllServe ip port servers → AllAsk (endpoint ip port) clients
-    → (several : Several stores sources inputs outputs)
-    × AreSeveralRan servers port clients several
-    × ((order : List Noted) → AllByRecursion (HasDoneThere several order) clients)
+    (inputs : SourceMeaning I) (outputs : SinkMeaning K) where
+  -- what the file of a complete get was handed is just what the source of the server gave that
+  -- serves it, and what that of a complete put gave is just what the draft of that server took
+  -- before a commit of it succeeded
+  abbrev pub SeveralMoveFiles : Type 0
+  SeveralMoveFiles =
+      (ip : List ℕ) (port : ℕ) (servers : List (ServerRan log stores sources))
+      (clients : List (ClientRan inputs outputs))
+      → HoldsOfSeveral ip port servers clients
+      (λ several order. AllByRecursion (HasDoneThere several order) clients)

@@ -1,26 +1,14 @@
 -- From disk to disk, for a put: what reads of LOCAL returned to a complete put is what its server
 -- wrote to a file that it made, synced, and then named as the client asked.
-use Rattle.std.specs.Prelude.{ℕ, ◌≡◌, List, map, Some}
+use Rattle.tftp_words.specs.Common.{SinkMeaning, SourceMeaning, Files, Source, Sink, StoreMeaning}
+use Rattle.tftp_words.specs.Common.{DiskEvent, DiskSource, SocketEvent, IsStoredAt, FolderDraft}
+use Rattle.tftp_words.specs.Common.{FolderStore, KeepAnyFiles, Programs}
+use Rattle.std.specs.Prelude.{ℕ, List, map}
 use Rattle.std.specs.List.{AllByRecursion}
-use Rattle.tftp_file.specs.Sink.{SinkMeaning}
-use Rattle.tftp_file.specs.Source.{SourceMeaning}
-use Rattle.tftp_file.specs.declared.files.Files.{Files}
-use Rattle.tftp_file.specs.declared.files.Files.TheVariants.{Source, Sink}
-use Rattle.tftp_store.specs.Store.{StoreMeaning}
-use Rattle.tftp_disk.specs.DiskTrace.{DiskEvent}
-use Rattle.tftp_disk.specs.declared.disk_source.DiskSource.{DiskSource}
-use Rattle.tftp_sockets.specs.Trace.{SocketEvent}
 use Rattle.tftp_client.specs.Sent.{IsSent, SendsWords}
 use Rattle.tftp_folder.specs.Changing.{limits_of}
-use Rattle.tftp_folder.specs.Stored.{IsStoredAt}
-use Rattle.tftp_folder.specs.declared.folder_draft.FolderDraft.{FolderDraft}
-use Rattle.tftp_folder.specs.declared.folder_store.FolderStore.{FolderStore}
-use Rattle.tftp_promises.specs.AnyFiles.{KeepAnyFiles}
-use Rattle.tftp_promises.specs.Openings.{ArePortsFresh}
-use Rattle.tftp_promises.specs.Order.{IsHonest, IsOrder, Noted, Programs}
-use Rattle.tftp_promises.specs.Programs.{endpoint}
-use Rattle.tftp_words.specs.EndToEnd.{GotFile, PutFile, WordsComplete}
-use Rattle.tftp_words.specs.Ran.{AllAsk, AreRan, ClientRan, Job, ServerRan, port_of}
+use Rattle.tftp_words.specs.EndToEnd.{GotFile, PutFile, RanComplete}
+use Rattle.tftp_words.specs.Ran.{ClientRan, HoldsOfOne, Job, ServerRan}
 
 module _ {L K : Type 0} (inputs : SourceMeaning (DiskSource L)) (outputs : SinkMeaning K) where
   -- a run of `tftp`, with the file that it sends on the disk
@@ -64,21 +52,14 @@ module _ {L K : Type 0} (inputs : SourceMeaning (DiskSource L)) (outputs : SinkM
     FileLeaves job (Sink sink) count bytes = GotFile programs job count bytes
 
     abbrev pub LeavesDisk : ClientSent → Type 0
-    LeavesDisk client =
-        WordsComplete inputs outputs FileLeaves client.words client.status client.before client.after
-        client.sent.0
+    LeavesDisk client = RanComplete inputs outputs FileLeaves (run_of client)
 
-  -- a run of `tftpd` whose request port was bound, and runs of `tftp` whose arguments name that
-  -- server: there are programs with just these traces. In whatever order an honest network joined
-  -- them, if their ports are fresh, they keep the promises, and what reads of LOCAL returned to
+  -- the programs that `tftpd` and `tftp` ran keep the promises, and what reads of LOCAL returned to
   -- each complete put is what the server wrote to the file that it made and named
   abbrev pub PutsFromDiskToDisk : {R G H W E B : Type 0} (log : R → List DiskEvent)
-      (stores : StoreMeaning (FolderStore R G H W) (FolderDraft B)) (sources : SourceMeaning E) → Type 0
+      (stores : StoreMeaning (FolderStore R G H W) (FolderDraft B)) (sources : SourceMeaning E)
+      → Type 0
   PutsFromDiskToDisk log stores sources =
       (server : ServerRan log stores sources) (port : ℕ) (clients : List ClientSent)
-      → port_of server ≡ Some port → AllAsk (endpoint server.ip port) (map run_of clients)
-      → (programs : Programs stores sources inputs outputs)
-      × AreRan server port (map run_of clients) programs
-      × ((order : List Noted) → IsOrder programs order
-      → IsHonest programs order → ArePortsFresh programs
-      → KeepAnyFiles programs × AllByRecursion (LeavesDisk log programs) clients)
+      → HoldsOfOne server port (map run_of clients)
+      (λ programs. KeepAnyFiles programs × AllByRecursion (LeavesDisk log programs) clients)

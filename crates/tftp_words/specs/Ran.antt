@@ -1,41 +1,35 @@
 -- What `tftpd` and `tftp` ran for the words of their command lines, and which programs these are.
+use Rattle.tftp_words.specs.Common.{SinkMeaning, SourceMeaning, StoreMeaning, SocketEvent}
+use Rattle.tftp_words.specs.Common.{RunsWords, moved_by, FolderStore, DiskEvent, IsServed, alone}
+use Rattle.tftp_words.specs.Common.{moved_in, ArePortsFresh, IsHonest, IsOrder, Noted, Programs}
+use Rattle.tftp_words.specs.Common.{endpoint, OneClient, OneServer, Several}
 use Rattle.std.specs.Prelude.{ℕ, ◌≡◌, false, List, [], ◌∷◌, ◌++◌, Option, Some, None, Result}
+use Rattle.std.specs.Prelude.{slice_get}
 use Rattle.std.specs.List.{AllByRecursion}
 use Rattle.std.proofs.Common.{inl, inr}
 use Rattle.std.specs.String.{string_bytes}
 use Rattle.tftp_negotiate.specs.declared.known.Kind.{Kind}
 use Rattle.tftp_negotiate.specs.declared.known.Kind.TheVariants.{Read, Write}
-use Rattle.tftp_file.specs.Sink.{SinkMeaning}
-use Rattle.tftp_file.specs.Source.{SourceMeaning}
 use Rattle.tftp_ends.specs.declared.endpoint.Endpoint.{Endpoint}
 use Rattle.tftp_ends.specs.End.{is_complete}
 use Rattle.tftp_ends.specs.Run.{IsOpen}
 use Rattle.tftp_ends.specs.declared.side.Side.{Side}
 use Rattle.tftp_ends.specs.declared.side.Side.TheVariants.{ClientRead, ClientWrite}
-use Rattle.tftp_store.specs.Store.{StoreMeaning}
 use Rattle.tftp_server.specs.State.{ServerState}
 use Rattle.tftp_sockets.specs.Bound.{IsBoundTo}
 use Rattle.tftp_sockets.specs.Quiet.{waits}
-use Rattle.tftp_sockets.specs.Trace.{SocketEvent}
 use Rattle.tftp_loop.specs.LoopStates.{noted_at_end}
 use Rattle.tftp_loop.specs.WholeRun.{RunsServer, Unbound, Bound, listening}
 use Rattle.tftp_loop.specs.declared.serving.LoopConfig.{LoopConfig}
 use Rattle.tftp_loop.specs.declared.serving.LoopFault.{LoopFault}
 use Rattle.tftp_client.specs.Converses.{most_waits}
 use Rattle.tftp_client.specs.Moved.{Moved}
-use Rattle.tftp_client.specs.Ordered.{RunsOrder, RunsWords}
-use Rattle.tftp_client.specs.Runs.{moved_by}
 use Rattle.tftp_client.specs.Words.{WordsName}
-use Rattle.tftp_folder.specs.declared.folder_store.FolderStore.{FolderStore}
-use Rattle.tftp_disk.specs.DiskTrace.{DiskEvent}
 use Rattle.tftp_folder.specs.Opened.{IsRootOf}
 use Rattle.tftp_daemon.specs.Configured.{ListensAt, ServesWords}
 use Rattle.tftp_daemon.specs.Words.{WordsConfigure}
 use Rattle.tftp_promises.specs.ClientPrograms.{IsCounted}
-use Rattle.tftp_promises.specs.ClientRuns.{moved_in}
-use Rattle.tftp_promises.specs.Order.{Programs}
 use Rattle.tftp_promises.specs.Programs.{ClientProgram, ServerProgram, name_of}
-use Rattle.tftp_promises.specs.Several.{Several}
 
 -- ---- the commands
 -- what the words of a command line name: of `tftp` a job, and of `tftpd` a configuration
@@ -71,14 +65,16 @@ pub record ClientRan {G K : Type 0} (inputs : SourceMeaning G) (outputs : SinkMe
 
 -- the port to which the server's request port was bound, if it was
 abbrev pub bound_by : {R G H W F D A : Type 0} {stores : StoreMeaning (FolderStore R G H W) D}
-    {sources : SourceMeaning F} {config : LoopConfig} {server : ServerState (FolderStore R G H W) F D}
+    {sources : SourceMeaning F} {config : LoopConfig}
+    {server : ServerState (FolderStore R G H W) F D}
     {result : Result A LoopFault} {before after : List SocketEvent}
     → RunsServer stores sources config server result before after → Option ℕ
 bound_by (Unbound ends) = None
 bound_by (Bound port is serves) = Some port
 
 abbrev pub bound_in : {R G H W F D : Type 0} {log : R → List DiskEvent}
-    {stores : StoreMeaning (FolderStore R G H W) D} {sources : SourceMeaning F} (words : List (List ℕ)) (status : ℕ) (before after : List SocketEvent)
+    {stores : StoreMeaning (FolderStore R G H W) D} {sources : SourceMeaning F}
+    (words : List (List ℕ)) (status : ℕ) (before after : List SocketEvent)
     → ServesWords log [] stores sources words status before after → Option ℕ
 bound_in words status before after (inl none) = None
 bound_in words status before after (inr did) = bound_by did.2.runs.serves
@@ -95,23 +91,17 @@ pub record Finished : Type 0 where
   pub moved : Moved
 
 -- the job of a command, if it is complete
-abbrev pub finished_by : {G K : Type 0} (inputs : SourceMeaning G) (outputs : SinkMeaning K)
-    (job : Job) (status : ℕ) (before after : List SocketEvent)
-    → RunsOrder inputs outputs job status before after → Option Finished
-finished_by inputs outputs job status before after (inl done) =
+abbrev pub finished_in : {G K : Type 0} (inputs : SourceMeaning G) (outputs : SinkMeaning K)
+    (words : List (List ℕ)) (status : ℕ) (before after : List SocketEvent)
+    → RunsWords inputs outputs words status before after → Option Finished
+finished_in inputs outputs words status before after (inl nothing) = None
+finished_in inputs outputs words status before after (inr (job, named, inl done)) =
     Some (record {
       job = job;
       count = done.1.count;
       moved = moved_by inputs outputs done.1.transfers;
     })
-finished_by inputs outputs job status before after (inr failed) = None
-
-abbrev pub finished_in : {G K : Type 0} (inputs : SourceMeaning G) (outputs : SinkMeaning K)
-    (words : List (List ℕ)) (status : ℕ) (before after : List SocketEvent)
-    → RunsWords inputs outputs words status before after → Option Finished
-finished_in inputs outputs words status before after (inl nothing) = None
-finished_in inputs outputs words status before after (inr did) =
-    finished_by inputs outputs did.0 status before after did.2
+finished_in inputs outputs words status before after (inr (job, named, inr failed)) = None
 
 -- the end of a job
 abbrev pub side_of : Kind → Side
@@ -158,8 +148,8 @@ module _ {G K : Type 0} {inputs : SourceMeaning G} {outputs : SinkMeaning K} whe
       × (clients ≡ earlier ++ client ∷ []) × IsRunFor done.job client
       × IsCounted done.count client × (moved_in client.runs ≡ done.moved)
 
-  -- a program of a command that did not complete: its end is not complete, and it has closed, unless
-  -- the command has made all its waits
+  -- a program of a command that did not complete: its end is not complete, and it has closed,
+  -- unless the command has made all its waits
   pub record HasStopped (most : ℕ) {to : Endpoint} (client : ClientProgram inputs outputs to)
       : Type 0 where
     pub incomplete : is_complete client.last.end.position.phase ≡ false
@@ -233,20 +223,53 @@ abbrev pub root_of : {R G H W F D I K : Type 0} {stores : StoreMeaning (FolderSt
     → Programs stores sources inputs outputs → List ℕ
 root_of programs = string_bytes programs.server.start.server.store.folder.root
 
--- these programs are the runs of all the commands, and there is no other server
-pub record AreRan {R G H W F D I K : Type 0} {log : R → List DiskEvent}
-    {stores : StoreMeaning (FolderStore R G H W) D} {sources : SourceMeaning F} {inputs : SourceMeaning I} {outputs : SinkMeaning K}
-    (server : ServerRan log stores sources) (port : ℕ) (clients : List (ClientRan inputs outputs))
-    (programs : Programs stores sources inputs outputs) : Type 0 where
-  pub of_server : IsServerRan server port programs.server
-  pub of_clients : AreAllRuns clients programs.clients
-  pub alone : programs.others ≡ []
+module _ {R G H W F D I K : Type 0} {log : R → List DiskEvent}
+    {stores : StoreMeaning (FolderStore R G H W) D} {sources : SourceMeaning F}
+    {inputs : SourceMeaning I} {outputs : SinkMeaning K} where
+  -- these programs are the runs of all the commands, and there is no other server
+  pub record AreRan (server : ServerRan log stores sources) (port : ℕ)
+      (clients : List (ClientRan inputs outputs))
+      (programs : Programs stores sources inputs outputs) : Type 0 where
+    pub of_server : IsServerRan server port programs.server
+    pub of_clients : AreAllRuns clients programs.clients
+    pub alone : programs.others ≡ []
 
--- with several servers
-pub record AreSeveralRan {R G H W F D I K : Type 0} {log : R → List DiskEvent}
-    {stores : StoreMeaning (FolderStore R G H W) D} {sources : SourceMeaning F} {inputs : SourceMeaning I} {outputs : SinkMeaning K}
-    (servers : List (ServerRan log stores sources)) (port : ℕ)
-    (clients : List (ClientRan inputs outputs))
-    (several : Several stores sources inputs outputs) : Type 0 where
-  pub of_servers : AreServersRan port servers several.servers
-  pub of_clients : AreAllRuns clients several.clients
+  -- with several servers
+  pub record AreSeveralRan (servers : List (ServerRan log stores sources)) (port : ℕ)
+      (clients : List (ClientRan inputs outputs))
+      (several : Several stores sources inputs outputs) : Type 0 where
+    pub of_servers : AreServersRan port servers several.servers
+    pub of_clients : AreAllRuns clients several.clients
+
+  -- of a run of `tftpd` whose request port was bound, and runs of `tftp` whose arguments name that
+  -- server: there are programs with just these traces, of which this holds in whatever order an
+  -- honest network joined them, if their ports are fresh
+  abbrev pub HoldsOfOne : ServerRan log stores sources → ℕ → List (ClientRan inputs outputs)
+      → (Programs stores sources inputs outputs → Type 0) → Type 0
+  HoldsOfOne server port clients Holds =
+      port_of server ≡ Some port → AllAsk (endpoint server.ip port) clients
+      → (programs : Programs stores sources inputs outputs) × AreRan server port clients programs
+      × ((order : List Noted) → IsOrder programs order → IsHonest programs order
+      → ArePortsFresh programs → Holds programs)
+
+  -- of runs of several `tftpd` at one address whose request ports were bound to one port, and runs
+  -- of `tftp` whose arguments name it: there are programs with just these traces, of which this
+  -- holds with each order of their events
+  abbrev pub HoldsOfSeveral : List ℕ → ℕ → List (ServerRan log stores sources)
+      → List (ClientRan inputs outputs)
+      → (Several stores sources inputs outputs → List Noted → Type 0) → Type 0
+  HoldsOfSeveral ip port servers clients Holds =
+      AllServe ip port servers → AllAsk (endpoint ip port) clients
+      → (several : Several stores sources inputs outputs)
+      × AreSeveralRan servers port clients several × ((order : List Noted) → Holds several order)
+
+module _ {S F D G K : Type 0} {stores : StoreMeaning S D} {sources : SourceMeaning F}
+    {inputs : SourceMeaning G} {outputs : SinkMeaning K} where
+  -- of each of several servers and each client that it serves, if an honest network joined all in
+  -- this order, this holds
+  abbrev pub HoldsOfEach : (Programs stores sources inputs outputs → Type 0)
+      → Several stores sources inputs outputs → List Noted → Type 0
+  HoldsOfEach Holds several order =
+      (i : ℕ) (server : OneServer several) (k : ℕ) (client : OneClient several)
+      → slice_get several.servers i ≡ Some server → slice_get several.clients k ≡ Some client
+      → IsServed several order i server k client → Holds (alone several i server client)

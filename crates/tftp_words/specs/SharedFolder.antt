@@ -1,17 +1,14 @@
 -- A folder that several programs share, by the calls that they asked of the system on its files: of
 -- two files that got one name, which has it (ours).
+use Rattle.tftp_words.specs.Common.{DiskEvent, FileState, Made, Linked, Renamed, AllLeave, Limits}
+use Rattle.tftp_words.specs.Common.{IsStoredAt, path_below}
 use Rattle.std.specs.Prelude.{ℕ, ◌≡◌, ◌≢◌, ◌⊎◌, ◌==◌, ⊤, Bool, true, false, if◌then◌else◌, List, []}
 use Rattle.std.specs.Prelude.{◌∷◌, ◌++◌, map, Ok, Err}
 use Rattle.std.specs.IoError.{error_kind}
-use Rattle.std.specs.declared.io.ErrorKind.TheVariants as kinds
-use Rattle.tftp_disk.specs.DiskTrace.{DiskEvent, FileState}
-use Rattle.tftp_disk.specs.DiskTrace.DiskEvent.{Looked, Made, Linked, Renamed}
-use Rattle.tftp_disk.specs.Still.{AllLeave}
-use Rattle.tftp_folder.specs.Changing.{Limits}
+use Rattle.tftp_disk.specs.DiskTrace.DiskEvent.{Looked}
 use Rattle.tftp_folder.specs.Commit.{IsFreeLocked, lock_of}
 use Rattle.tftp_folder.specs.Locks.{KeepLock}
-use Rattle.tftp_folder.specs.Stored.{IsStoredAt}
-use Rattle.tftp_folder.specs.Uploads.{path_below}
+use Rattle.std.specs.declared.io.ErrorKind.TheVariants as kinds
 
 -- a call of the system, and the program that asked it, by a number
 abbrev pub FolderCall : Type 0
@@ -35,7 +32,7 @@ pub data GivesTo (path : List ℕ) (call : DiskEvent) : Type 0 where
 abbrev pub AllLeaveIt : List ℕ → List FolderCall → Type 0
 AllLeaveIt path order = AllLeave path (map (λ (call : FolderCall). call.1) order)
 
--- by these calls, the newest first, a file has the name: one got it, and each call since has left it
+-- by these calls, the newest first, a file has the name: one got it, and each call since left it
 pub record HasName (path : List ℕ) (order : List FolderCall) : Type 0 where
   pub since : List FolderCall
   pub program : ℕ
@@ -54,8 +51,8 @@ Agrees (Looked path (Err error)) before =
     error_kind error ≡ kinds.NotFound → HasName path before → ⊥
 Agrees event before = ⊤
 
--- the answers of all calls do: what the system must promise of the folder. Of a program that changes
--- it otherwise the calls are in the order, too
+-- the answers of all calls do: what the system must promise of the folder. Of a program that
+-- changes it otherwise the calls are in the order, too
 abbrev pub AnswersAgree : List FolderCall → Type 0
 AnswersAgree [] = ⊤
 AnswersAgree (call ∷ before) = Agrees call.1 before × AnswersAgree before
@@ -121,8 +118,8 @@ PutsAreNamed =
 module _ {order : List FolderCall} {target : List ℕ} {i j : ℕ} {may_replace replaces : Bool}
     (first : IsNamed order target i may_replace) (second : IsNamed order target j replaces) where
   -- the second file was renamed to the name after the first got it, and was looked at before that:
-  -- its program asked nothing between. If all keep the name's lock, the first got it without that: by
-  -- a link, or since its program may replace files
+  -- its program asked nothing between. If all keep the name's lock, the first got it without that:
+  -- by a link, or since its program may replace files
   pub record Overlaps (between : List FolderCall) : Type 0 where
     pub other : i ≢ j
     pub renamed : IsLinkTo target second.call → ⊥
@@ -140,8 +137,8 @@ module _ {order : List FolderCall} {target : List ℕ} {i j : ℕ} {may_replace 
     -- system refused it a hard link, and the first got the name meanwhile
     pub taken : replaces ≡ false → AllLeaveIt target between → Overlaps between
 
--- of two files that got one name, in an order with whose calls the answers agree: they are one, or one
--- got it later, and that one alone can have it at the end
+-- of two files that got one name, in an order with whose calls the answers agree: they are one, or
+-- one got it later, and that one alone can have it at the end
 abbrev pub OneHasTheName : Type 0
 OneHasTheName =
     (order : List FolderCall) (target : List ℕ) (i j : ℕ) (may_replace replaces : Bool)

@@ -1,11 +1,9 @@
--- Two programs that share a folder: one makes its temporary file while the other holds its own, which
--- then gets its name. The premises of `no_put_takes_anothers_file` hold of their calls (ours).
+-- Two programs that share a folder: one makes its temporary file while the other holds its own,
+-- which then gets its name. The premises of `no_put_takes_anothers_file` hold of their calls
+-- (ours).
+use Rattle.tftp_words.specs.Common.{FileState, Made, Linked, Removed, IsDraftIn, path_below}
 use Rattle.std.specs.Prelude.{ℕ, ◌≡◌, true, false, List, [], ◌∷◌, Some, Ok, codes}
-use Rattle.tftp_disk.specs.DiskTrace.{FileState}
-use Rattle.tftp_disk.specs.DiskTrace.DiskEvent.{Made, Linked, Removed}
 use Rattle.tftp_folder.specs.Begin.{draft_name}
-use Rattle.tftp_folder.specs.Changing.{IsDraftIn}
-use Rattle.tftp_folder.specs.Uploads.{path_below}
 use Rattle.tftp_words.specs.SharedDrafts.{AreStores, Holds, IsHeldAlone, IsNaming}
 use Rattle.tftp_words.specs.SharedFolder.{FolderCall, calls_by}
 

@@ -1,46 +1,23 @@
 -- What `tftpd` and `tftp` ran for their words closes for no other cause than a file, a store, or no
 -- answer.
-use Rattle.std.specs.Prelude.{ℕ, ◌≡◌, List, slice_get, Some}
-use Rattle.tftp_file.specs.Sink.{SinkMeaning}
-use Rattle.tftp_file.specs.Source.{SourceMeaning}
-use Rattle.tftp_disk.specs.DiskTrace.{DiskEvent}
-use Rattle.tftp_store.specs.Store.{StoreMeaning}
-use Rattle.tftp_folder.specs.declared.folder_store.FolderStore.{FolderStore}
-use Rattle.tftp_promises.specs.Alone.{IsServed, alone}
+use Rattle.tftp_words.specs.Common.{SinkMeaning, SourceMeaning, DiskEvent, StoreMeaning}
+use Rattle.tftp_words.specs.Common.{FolderStore}
+use Rattle.std.specs.Prelude.{ℕ, List}
 use Rattle.tftp_promises.specs.Blamed.{NoneIsBlamed}
-use Rattle.tftp_promises.specs.Openings.{ArePortsFresh}
-use Rattle.tftp_promises.specs.Order.{IsHonest, IsOrder, Noted, Programs}
-use Rattle.tftp_promises.specs.Programs.{endpoint}
-use Rattle.tftp_promises.specs.Several.{Several, OneServer, OneClient}
-use Rattle.tftp_words.specs.Ran.{AllAsk, AllServe, AreRan, AreSeveralRan, ClientRan, ServerRan}
-use Rattle.tftp_words.specs.Ran.{port_of}
+use Rattle.tftp_words.specs.Ran.{ClientRan, HoldsOfEach, HoldsOfOne, HoldsOfSeveral, ServerRan}
 
--- a run of `tftpd` whose request port was bound, and runs of `tftp` whose arguments name that
--- server: there are programs with just these traces, of which none is blamed in whatever order an
--- honest network joined them, if their ports are fresh
-abbrev pub NoCommandIsBlamed : {R G H W F D I K : Type 0} (log : R → List DiskEvent)
+module _ {R G H W F D I K : Type 0} (log : R → List DiskEvent)
     (stores : StoreMeaning (FolderStore R G H W) D) (sources : SourceMeaning F)
-    (inputs : SourceMeaning I) (outputs : SinkMeaning K) → Type 0
-NoCommandIsBlamed log stores sources inputs outputs =
-    (server : ServerRan log stores sources) (port : ℕ) (clients : List (ClientRan inputs outputs))
-    → port_of server ≡ Some port → AllAsk (endpoint server.ip port) clients
-    → (programs : Programs stores sources inputs outputs) × AreRan server port clients programs
-    × ((order : List Noted) → IsOrder programs order
-    → IsHonest programs order → ArePortsFresh programs
-    → NoneIsBlamed programs)
+    (inputs : SourceMeaning I) (outputs : SinkMeaning K) where
+  -- of the programs that `tftpd` and `tftp` ran none is blamed
+  abbrev pub NoCommandIsBlamed : Type 0
+  NoCommandIsBlamed =
+      (server : ServerRan log stores sources) (port : ℕ) (clients : List (ClientRan inputs outputs))
+      → HoldsOfOne server port clients NoneIsBlamed
 
--- the same of runs of several `tftpd` at one address and request port: of each of them and each
--- client that it serves none is blamed
-abbrev pub NoneOfSeveralIsBlamed : {R G H W F D I K : Type 0} (log : R → List DiskEvent)
-    (stores : StoreMeaning (FolderStore R G H W) D) (sources : SourceMeaning F)
-    (inputs : SourceMeaning I) (outputs : SinkMeaning K) → Type 0
-NoneOfSeveralIsBlamed log stores sources inputs outputs =
-    (ip : List ℕ) (port : ℕ) (servers : List (ServerRan log stores sources))
-    (clients : List (ClientRan inputs outputs))
-    → AllServe ip port servers → AllAsk (endpoint ip port) clients
-    → (several : Several stores sources inputs outputs)
-    × AreSeveralRan servers port clients several
-    × ((order : List Noted) (i : ℕ) (server : OneServer several) (k : ℕ)
-    (client : OneClient several)
-    → slice_get several.servers i ≡ Some server → slice_get several.clients k ≡ Some client
-    → IsServed several order i server k client → NoneIsBlamed (alone several i server client))
+  -- the same of several `tftpd`: of each of them and each client that it serves
+  abbrev pub NoneOfSeveralIsBlamed : Type 0
+  NoneOfSeveralIsBlamed =
+      (ip : List ℕ) (port : ℕ) (servers : List (ServerRan log stores sources))
+      (clients : List (ClientRan inputs outputs))
+      → HoldsOfSeveral ip port servers clients (HoldsOfEach NoneIsBlamed)

@@ -1,13 +1,10 @@
--- Runs of `tftpd` and `tftp` that meet each premise of the laws from disk to disk: of a get, of a put,
--- and of both at two servers. Their disks are the lists of their calls.
+-- Runs of `tftpd` and `tftp` that meet each premise of the laws from disk to disk: of a get, of a
+-- put, and of both at two servers. Their disks are the lists of their calls.
+use Rattle.tftp_words.specs.Common.{IsPassedOver, IsServed, ArePortsFresh, IsHonest, IsOrder, Noted}
+use Rattle.tftp_words.specs.Common.{Programs, endpoint, OneClient, OneServer, Several}
 use Rattle.std.specs.Prelude.{ℕ, ◌≡◌, List, [], ◌∷◌, Some, IsSome, slice_get}
 use Rattle.tftp_client.specs.Witness.{local_sink, local_source}
 use Rattle.tftp_daemon.specs.Witness.{its_calls, sources, stores}
-use Rattle.tftp_promises.specs.Alone.{IsPassedOver, IsServed}
-use Rattle.tftp_promises.specs.Openings.{ArePortsFresh}
-use Rattle.tftp_promises.specs.Order.{IsHonest, IsOrder, Noted, Programs}
-use Rattle.tftp_promises.specs.Programs.{endpoint}
-use Rattle.tftp_promises.specs.Several.{OneClient, OneServer, Several}
 use Rattle.tftp_words.specs.FromDisk.{ClientStored, ran_of}
 use Rattle.tftp_words.specs.PutFromDisk.{ClientSent, run_of}
 use Rattle.tftp_words.specs.Ran.{AllAsk, AllServe, AreRan, AreSeveralRan, ClientRan, ServerRan}

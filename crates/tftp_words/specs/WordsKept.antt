@@ -1,48 +1,29 @@
 -- What `tftpd` and `tftp` ran for their words keeps the promises of a transfer.
+use Rattle.tftp_words.specs.Common.{SinkMeaning, SourceMeaning, DiskEvent, StoreMeaning}
+use Rattle.tftp_words.specs.Common.{FolderStore, IsPassedOver, alone, KeepAnyFiles, OneClient}
+use Rattle.tftp_words.specs.Common.{OneServer}
 use Rattle.std.specs.Prelude.{ℕ, ◌≡◌, List, slice_get, Some}
-use Rattle.tftp_file.specs.Sink.{SinkMeaning}
-use Rattle.tftp_file.specs.Source.{SourceMeaning}
-use Rattle.tftp_disk.specs.DiskTrace.{DiskEvent}
-use Rattle.tftp_store.specs.Store.{StoreMeaning}
-use Rattle.tftp_folder.specs.declared.folder_store.FolderStore.{FolderStore}
-use Rattle.tftp_promises.specs.Alone.{HasNothing, IsPassedOver, IsServed, alone, just_asking}
-use Rattle.tftp_promises.specs.AnyFiles.{KeepAnyFiles}
-use Rattle.tftp_promises.specs.Openings.{ArePortsFresh}
-use Rattle.tftp_promises.specs.Order.{IsHonest, IsOrder, Noted, Programs}
-use Rattle.tftp_promises.specs.Programs.{endpoint}
-use Rattle.tftp_promises.specs.Several.{Several, OneServer, OneClient}
-use Rattle.tftp_words.specs.Ran.{AllAsk, AllServe, AreRan, AreSeveralRan, ClientRan, ServerRan}
-use Rattle.tftp_words.specs.Ran.{port_of}
+use Rattle.tftp_promises.specs.Alone.{HasNothing, just_asking}
+use Rattle.tftp_words.specs.Ran.{ClientRan, HoldsOfEach, HoldsOfOne, HoldsOfSeveral, ServerRan}
 
--- a run of `tftpd` whose request port was bound, and runs of `tftp` whose arguments name that
--- server: there are programs with just these traces, which keep the promises in whatever order an
--- honest network joined them, if their ports are fresh
-abbrev pub WordsKeepAnyFiles : {R G H W F D I K : Type 0} (log : R → List DiskEvent)
-    (stores : StoreMeaning (FolderStore R G H W) D) (sources : SourceMeaning F) (inputs : SourceMeaning I) (outputs : SinkMeaning K) → Type 0
-WordsKeepAnyFiles log stores sources inputs outputs =
-    (server : ServerRan log stores sources) (port : ℕ) (clients : List (ClientRan inputs outputs))
-    → port_of server ≡ Some port → AllAsk (endpoint server.ip port) clients
-    → (programs : Programs stores sources inputs outputs) × AreRan server port clients programs
-    × ((order : List Noted) → IsOrder programs order
-    → IsHonest programs order → ArePortsFresh programs
-    → KeepAnyFiles programs)
-
--- runs of several `tftpd` at one address whose request ports were bound to one port, and runs of
--- `tftp` whose arguments name it: there are programs with just these traces. In whatever order an
--- honest network joined them, each server and each client that it serves keep the promises; a
--- server that a client passes over has nothing of it
-abbrev pub SeveralKeepAnyFiles : {R G H W F D I K : Type 0} (log : R → List DiskEvent)
+module _ {R G H W F D I K : Type 0} (log : R → List DiskEvent)
     (stores : StoreMeaning (FolderStore R G H W) D) (sources : SourceMeaning F)
-    (inputs : SourceMeaning I) (outputs : SinkMeaning K) → Type 0
-SeveralKeepAnyFiles log stores sources inputs outputs =
-    (ip : List ℕ) (port : ℕ) (servers : List (ServerRan log stores sources))
-    (clients : List (ClientRan inputs outputs))
-    → AllServe ip port servers → AllAsk (endpoint ip port) clients
-    → (several : Several stores sources inputs outputs)
-    × AreSeveralRan servers port clients several
-    × ((order : List Noted) (i : ℕ) (server : OneServer several) (k : ℕ)
-    (client : OneClient several)
-    → slice_get several.servers i ≡ Some server → slice_get several.clients k ≡ Some client
-    → (IsServed several order i server k client → KeepAnyFiles (alone several i server client))
-    × (IsPassedOver several order i server k client
-    → HasNothing several client (alone several i server (just_asking several client))))
+    (inputs : SourceMeaning I) (outputs : SinkMeaning K) where
+  -- the programs that `tftpd` and `tftp` ran keep the promises
+  abbrev pub WordsKeepAnyFiles : Type 0
+  WordsKeepAnyFiles =
+      (server : ServerRan log stores sources) (port : ℕ) (clients : List (ClientRan inputs outputs))
+      → HoldsOfOne server port clients KeepAnyFiles
+
+  -- of several `tftpd`, each and each client that it serves keep the promises; one that a client
+  -- passes over has nothing of it
+  abbrev pub SeveralKeepAnyFiles : Type 0
+  SeveralKeepAnyFiles =
+      (ip : List ℕ) (port : ℕ) (servers : List (ServerRan log stores sources))
+      (clients : List (ClientRan inputs outputs))
+      → HoldsOfSeveral ip port servers clients (λ several order.
+      HoldsOfEach KeepAnyFiles several order
+      × ((i : ℕ) (server : OneServer several) (k : ℕ) (client : OneClient several)
+      → slice_get several.servers i ≡ Some server → slice_get several.clients k ≡ Some client
+      → IsPassedOver several order i server k client
+      → HasNothing several client (alone several i server (just_asking several client))))

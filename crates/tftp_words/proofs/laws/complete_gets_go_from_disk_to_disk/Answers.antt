@@ -1,11 +1,11 @@
 -- The lemma that is the law.
-use Rattle.std.proofs.Common.{refl}
+use Rattle.tftp_words.proofs.Common.{refl}
 use Rattle.tftp_words.proofs.FromDiskMade.{from_disk}
 use Rattle.tftp_words.proofs.laws.complete_gets_go_from_disk_to_disk.Goals as goal
 
 pub returns : goal.returns
 returns g c =
-    from_disk _ _ _ _
+    from_disk
     (record {
       keeps = c.a_run_keeps_the_settings.ensures;
       gives = c.gives_its_file.ensures;

@@ -1,13 +1,15 @@
 -- The lemmas that are the law.
-use Rattle.tftp_words.proofs.UnblamedMade.{one_unblamed, several_unblamed}
+use Rattle.tftp_words.proofs.Common.{HoldsOfEach}
+use Rattle.tftp_promises.specs.Blamed.{NoneIsBlamed}
+use Rattle.tftp_words.proofs.WordsMade.{one_holds, several_hold}
 use Rattle.tftp_words.proofs.laws.no_command_is_blamed.Goals as goal
 
 pub returns-clause-one : goal.returns-clause-one
 returns-clause-one g c =
-    one_unblamed _ _ _ _ _ c.a_server_is_one_run.ensures c.a_client_is_one_run.ensures.programs
+    one_holds c.a_server_is_one_run.ensures c.a_client_is_one_run.ensures.programs NoneIsBlamed
     c.no_program_is_blamed.ensures.programs c.programs_keep_promises.ensures.alone
 
 pub returns-clause-several : goal.returns-clause-several
 returns-clause-several g c =
-    several_unblamed _ _ _ _ _ c.a_server_is_one_run.ensures c.a_client_is_one_run.ensures.programs
+    several_hold c.a_server_is_one_run.ensures c.a_client_is_one_run.ensures.programs (HoldsOfEach NoneIsBlamed)
     c.no_program_is_blamed.ensures.several
