@@ -1,7 +1,7 @@
 -- The blocks of a text. For `blocks` and the crate tftp_rules.
 use Rattle.std.proofs.lemmas.Grind.{common_steps}
-use Rattle.std.proofs.Common.{◌≡◌, ℕ, zero, suc, ◌+◌, ◌-◌, ◌*◌, ◌<◌, ◌≤◌, List, [], ◌++◌, sym, ap, ◌∙◌, arith, length}
-use Rattle.std.proofs.Common.{take, drop, rules}
+use Rattle.std.proofs.Common.{◌≡◌, ℕ, zero, suc, ◌+◌, ◌-◌, ◌*◌, ◌<◌, ◌≤◌, List, ◌++◌, sym, ap, ◌∙◌, arith, length, take}
+use Rattle.std.proofs.Common.{drop, rules}
 use Rattle.std.specs.Prelude.{◌%◌}
 use Rattle.std.proofs.lemmas.List.{take-append-drop, take-take, drop-take, take_all}
 use Rattle.std.proofs.lemmas.Nat.{div-add-mod', mod_below}
@@ -47,7 +47,3 @@ module _ (text : List ℕ) (size : ℕ) (some : 0 < size) where
   -- every other has the block size
   pub others_full : (n : ℕ) → 1 ≤ n → n < block_count text size → length (block text size n) ≡ size
   others_full n low high = grind (arith, common_steps)
-
-  -- the last is empty where the others have all of the text
-  pub last_empty : (n : ℕ) → length text ≡ n * size → block text size (block_count text size) ≡ []
-  last_empty n e = grind (arith, common_steps)

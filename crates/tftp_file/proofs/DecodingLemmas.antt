@@ -7,8 +7,7 @@ use Rattle.std.proofs.lemmas.List.{append-nil}
 use Rattle.std.proofs.lemmas.Bool.{cases_eq}
 use Rattle.tftp_file.specs.Netascii.{wire_byte, netascii_text}
 use Rattle.tftp_file.specs.Lines.{EndsAtLine}
-use Rattle.tftp_file.specs.Decoding.{IsHeldBack, DecodesPiece, IsWrong, Refuses, FirstWrong, BeginsWireText, held_bytes}
-use Rattle.tftp_file.specs.declared.netascii.HeldText.{HeldText}
+use Rattle.tftp_file.specs.Decoding.{IsHeldBack, DecodesPiece, IsWrong, Refuses, FirstWrong, BeginsWireText}
 use Rattle.tftp_file.specs.declared.netascii.NetFault.{NetFault}
 use Rattle.tftp_file.specs.declared.netascii.NetFault.TheVariants.{LoneCr, LoneLf}
 use Rattle.tftp_file.proofs.NetasciiLemmas.{ByteForm, Line, Return, Itself, byte_form}
@@ -174,11 +173,6 @@ wrong_refuses text fault h = search rules
 pub decoded_once : (text bytes after more_bytes more_after : List ℕ) → DecodesPiece [] text bytes after
     → DecodesPiece [] text more_bytes more_after → (bytes ≡ more_bytes) × (after ≡ more_after)
 decoded_once text bytes after more_bytes more_after h k = search (rules, one_way, stop_held)
-
--- an empty piece decodes to nothing
-pub nothing_taken : (held : HeldText) (before piece : List ℕ) → held_bytes held ≡ before → length piece ≡ 0
-    → DecodesPiece before piece [] before
-nothing_taken held before piece e z = grind (arith, common_steps)
 
 -- a piece is the pair that it completes, and then the rest
 pub piece_taken : (held piece first rest bytes after : List ℕ) → held ++ piece ≡ netascii_text first ++ rest

@@ -1,7 +1,6 @@
 -- The content of a full sink in memory. For `MemSinkSink::append`.
-use Rattle.std.proofs.Common.{◌≡◌, ℕ, ◌+◌, Bool, false, List, ◌++◌, length, take, drop, Some, refl, rules}
-use Rattle.std.proofs.lemmas.List.{take-append-drop, take_at, drop_at}
-use Rattle.std.proofs.Math.Seq.{take-add}
+use Rattle.std.proofs.Common.{ℕ, ◌+◌, Bool, false, List, ◌++◌, take, drop, Some, refl}
+use Rattle.std.proofs.lemmas.List.{take-append-drop}
 use Rattle.tftp_file.specs.Sink.{KeptPrefix}
 
 -- the first n bytes of the piece are a prefix of it
@@ -17,8 +16,3 @@ kept_first bytes piece n committed refuses = record {
   uncommitted = λ e. cc;
   refuses = refl;
 }
-
--- the bytes of the piece that fit fill the capacity
-pub kept_room : (bytes piece : List ℕ) (room n : ℕ) → length bytes + n ≡ room
-    → bytes ++ take n piece ≡ take room (bytes ++ piece)
-kept_room bytes piece room n full = search (rules, take-add, take_at, drop_at)

@@ -1,6 +1,5 @@
 -- A read after earlier reads. For `read_from`.
 use Rattle.std.proofs.Common.{◌≡◌, ℕ, ◌+◌, ◌-◌, ◌≤◌, List, ◌++◌, length, take, drop, Option, sym, ap, ◌∙◌, subst, arith}
-use Rattle.std.proofs.Common.{rules}
 use Rattle.std.specs.Io.KnownBytes.{Consumes}
 use Rattle.std.proofs.KnownBytes.{Consumes-trans}
 use Rattle.std.proofs.lemmas.List.{take-take, drop-take, drop-drop}
@@ -34,10 +33,3 @@ read_more a b c start at n old new after within fits same before read =
     n (drop (at - start) (drop start new))) (between_stays start at old new after same) ∙ ap (λ l. take (at - start)
     (drop start old) ++ l) rest in
     subst (Consumes a c) (sym joined) (Consumes-trans a b c _ _ before read)
-
--- a read of no bytes adds nothing
-pub read_none : (a b c : Option (List ℕ)) (start at n : ℕ) (old new : List ℕ) → n ≡ 0 → start ≤ at
-    → at ≤ length old → at + n ≤ length new → take at new ≡ take at old
-    → Consumes a b (take (at - start) (drop start old)) → Consumes b c (take n (drop at new))
-    → Consumes a c (take (at - start) (drop start new))
-read_none a b c start at n old new none after within fits same before read = search (rules, read_more)

@@ -1,8 +1,7 @@
 -- A name by its letters, and a number by its decimal digits. For `Name::of`, `number_of`, KeptLemmas and LawsLemmas.
-use Rattle.std.proofs.Common.{◌≡◌, ℕ, ◌^◌, ◌<◌, ◌↔◌, Bool, true, false, ◌&&◌, cond, List, Some, None, IsTrue, decimal}
+use Rattle.std.proofs.Common.{◌≡◌, ℕ, ◌^◌, ◌<◌, Bool, true, false, ◌&&◌, cond, List, Some, None, decimal}
 use Rattle.std.proofs.Common.{nat_lt, bytes_eq, refl, sym, ◌∙◌, ap, arith, ◌*◌, ◌+◌, IfSome, Option, get_or, length}
 use Rattle.std.proofs.Common.{take, rules}
-use Rattle.std.specs.Str.{str_to_ascii_lowercase}
 use Rattle.std.specs.Char.{digit_value}
 use Rattle.std.specs.Int.{IsInRange}
 use Rattle.std.proofs.lemmas.Int.Digits.{digits_value_more}
@@ -14,14 +13,8 @@ use Rattle.std.proofs.lemmas.Bool.{cond-true, cond-false}
 use Rattle.std.proofs.lemmas.Bool.Decides.{nat_tests}
 use Rattle.std.specs.Cmp.Derive.{both_true}
 use Rattle.std.proofs.lemmas.Option.{cond_some}
-use Rattle.tftp_negotiate.specs.declared.name.Name.{Name}
 use Rattle.tftp_negotiate.specs.declared.name.Name.TheVariants.{Blksize, Timeout, Tsize}
-use Rattle.tftp_negotiate.specs.Options.{name_of, number_of, name_text, means}
-
--- the same, of the bytes of a name
-pub means_bytes : (text bytes : List ℕ) (name : Name) (r : Bool) → bytes ≡ name_text name
-    → (IsTrue r ↔ (str_to_ascii_lowercase text ≡ str_to_ascii_lowercase bytes)) → means text name ≡ r
-means_bytes text bytes name r is h = search rules
+use Rattle.tftp_negotiate.specs.Options.{name_of, number_of, means}
 
 -- the name `blksize`, in any case
 pub name_of-blksize : (text : List ℕ) → means text Blksize ≡ true → name_of text ≡ Some Blksize

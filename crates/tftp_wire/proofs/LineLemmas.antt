@@ -1,5 +1,5 @@
 -- The maximum length of the line of a packet. For `line_room_ref`, `line_room` and `show_fault`.
-use Rattle.std.proofs.Common.{ℕ, ◌+◌, ◌*◌, ◌<◌, ◌≤◌, ◌^◌, Bool, true, false, cond, arith, List, [], ◌∷◌, length}
+use Rattle.std.proofs.Common.{ℕ, ◌+◌, ◌*◌, ◌<◌, ◌≤◌, ◌^◌, Bool, true, false, cond, arith, List, [], ◌∷◌, length, rules}
 use Rattle.std.proofs.lemmas.Fmt.{length-decimal-le}
 use Rattle.std.proofs.lemmas.List.{length-append}
 use Rattle.std.specs.List.{flat_map}
@@ -64,8 +64,7 @@ data_fits block bytes b l =
 
 -- an ACK
 pub ack_fits : (block : ℕ) → block < 2 ^ 16 → length (line (Ack block)) ≤ 40
-ack_fits block b =
-    simp length-append (omega (arith, length-decimal-le 5 block (omega arith) (omega arith) (omega arith)))
+ack_fits block b = search (rules, length-append, length-decimal-le)
 
 -- an ERROR
 pub error_fits : (code : ℕ) (text : List ℕ) → code < 2 ^ 16
@@ -79,18 +78,7 @@ pub oack_fits : (os : List RawOption) → length (line (Oack os)) ≤ 3 * length
 oack_fits os = simp length-append (omega (arith, options_fit os))
 
 name_fits : (kind : PacketFaultKind) → length (kind_name kind) ≤ 12
-name_fits kinds.Short = omega arith
-name_fits kinds.Opcode = omega arith
-name_fits kinds.Unterminated = omega arith
-name_fits kinds.EmptyName = omega arith
-name_fits kinds.Mode = omega arith
-name_fits kinds.NoValue = omega arith
-name_fits kinds.EmptyOption = omega arith
-name_fits kinds.Trailing = omega arith
-name_fits kinds.TooLong = omega arith
-name_fits kinds.BlockZero = omega arith
-name_fits kinds.EmptyOack = omega arith
-name_fits kinds.Memory = omega arith
+name_fits kind = search rules
 
 -- a fault
 pub fault_fits : (kind : PacketFaultKind) (at : ℕ) → at < 2 ^ 64 → length (fault_line kind at) ≤ 40

@@ -1,8 +1,8 @@
 -- Bytes that begin with an option. For `OptionsIterIterator::next`.
-use Rattle.std.proofs.Common.{ℕ, ◌≡◌, refl, ap, sym, ◌∙◌, List, [], ◌∷◌, ◌++◌}
+use Rattle.std.proofs.Common.{ℕ, ◌≡◌, refl, List, [], ◌∷◌, ◌++◌, rules}
 use Rattle.std.proofs.lemmas.List.{append_assoc, append_cancel_left}
 use Rattle.tftp_wire.specs.Texts.{IsText, zero_ended}
-use Rattle.tftp_wire.specs.Options.{options_bytes, options_in, AreOptions}
+use Rattle.tftp_wire.specs.Options.{options_in, AreOptions}
 use Rattle.tftp_wire.proofs.TextsLemmas.{texts_first, texts_none}
 
 -- a name alone is no option
@@ -14,18 +14,10 @@ options_name bytes name after n h = rw (n.1, texts_first name after n.0, texts_n
 pub options_first : (bytes name after value rest : List ℕ) → IsText name × (bytes ≡ zero_ended name ++ after)
     → IsText value × (after ≡ zero_ended value ++ rest)
     → options_in bytes ≡ record { name = name; value = value } ∷ options_in rest
-options_first bytes name after value rest n v =
-    rw (n.1, texts_first name after n.0, v.1, texts_first value rest v.0) refl
+options_first bytes name after value rest n v = search (rules, texts_first)
 
 -- the bytes after the first option are options
 pub options_rest : (bytes name after value rest : List ℕ) → IsText name × (bytes ≡ zero_ended name ++ after)
     → IsText value × (after ≡ zero_ended value ++ rest) → AreOptions bytes → AreOptions rest
 options_rest bytes name after value rest n v o =
-    let first = options_first bytes name after value rest n v in
-    let parts : bytes ≡ zero_ended name ++ zero_ended value ++ rest =
-    n.1 ∙ ap (λ bs. zero_ended name ++ bs) v.1 ∙ sym (append_assoc (zero_ended name) (zero_ended value) rest) in
-    record {
-      whole =
-          append_cancel_left (zero_ended name ++ zero_ended value) _ _ (sym (ap options_bytes first) ∙ o.whole ∙ parts);
-      each = (rw first at o.each).1;
-    }
+    search (rules, options_first, append_assoc, append_cancel_left)

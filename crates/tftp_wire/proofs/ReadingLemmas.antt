@@ -1,6 +1,6 @@
 -- The first fault of a datagram, text by text. For five functions and SpellingLemmas.
-use Rattle.std.proofs.Common.{ℕ, ◌≡◌, ◌≢◌, ◌+◌, ◌-◌, ◌≤◌, Bool, true, false, cond, not, eqb, ltb, ⊎_elim, refl, ap, sym}
-use Rattle.std.proofs.Common.{◌∙◌, arith, List, [], ◌∷◌, ◌++◌, length, drop, Option, Some, None, MatchOption}
+use Rattle.std.proofs.Common.{ℕ, ◌≡◌, ◌≢◌, ◌+◌, ◌-◌, ◌≤◌, Bool, true, false, cond, not, eqb, ⊎_elim, refl, ap, sym, ◌∙◌}
+use Rattle.std.proofs.Common.{arith, List, [], ◌∷◌, ◌++◌, length, drop, Option, Some, None, MatchOption, rules}
 use Rattle.std.specs.Borrow.{Bor}
 use Rattle.std.specs.Option.{ok_or}
 use Rattle.std.specs.List.{AllByRecursion, flat_map}
@@ -14,8 +14,7 @@ use Rattle.tftp_wire.specs.declared.options.RawOption.{RawOption}
 use Rattle.tftp_wire.specs.declared.mode.Mode.{Mode}
 use Rattle.tftp_wire.specs.Texts.{IsText, zero_ended, texts, with_first, unended, unended_with}
 use Rattle.tftp_wire.specs.Options.{IsOption, options_bytes, paired, options_in, AreOptions}
-use Rattle.tftp_wire.specs.Reading.{options_fault, texts_fault, mode_fault, mode_in, request_fault, message_fault}
-use Rattle.tftp_wire.specs.Reading.{number_fault, error_fault}
+use Rattle.tftp_wire.specs.Reading.{options_fault, mode_in, request_fault, message_fault, number_fault, error_fault}
 use Rattle.tftp_wire.specs.Parts.{bytes_fault, request_of, BeginsWith, SplitsText}
 use Rattle.tftp_wire.proofs.TextsLemmas.{texts_first, texts_none, unended_rest, unended_all}
 
@@ -23,12 +22,8 @@ use Rattle.tftp_wire.proofs.TextsLemmas.{texts_first, texts_none, unended_rest, 
 pub text_split : (at : ℕ) (bytes : List ℕ) (r : Option (Bor (List ℕ) × Bor (List ℕ)))
     → MatchOption r (IsText bytes) (λ parts. IsText parts.0.now × (bytes ≡ zero_ended parts.0.now ++ parts.1.now))
     → SplitsText at bytes (ok_or r (record { kind = Unterminated; at = at }))
-text_split at bytes None h = (texts_none bytes h, unended_all bytes h, refl)
-text_split at bytes (Some parts) h = (
-  rw h.1 (texts_first parts.0.now parts.1.now h.0),
-  rw h.1 (unended_rest parts.0.now parts.1.now h.0),
-  ap length h.1 ∙ simp length-append,
-)
+text_split at bytes r h =
+    search (rules, texts_none, unended_all, texts_first, unended_rest, length-append)
 
 -- an option with a name
 pub named_option : (at : ℕ) (name value : List ℕ) (others : List (List ℕ)) (rest : List ℕ) → length name ≢ 0
@@ -36,12 +31,6 @@ pub named_option : (at : ℕ) (name value : List ℕ) (others : List (List ℕ))
     ≡ options_fault (at + (length name + 1) + (length value + 1)) others rest
 named_option at [] value others rest h = absurd (h refl)
 named_option at (c ∷ name) value others rest h = refl
-
--- a request with a file name
-pub named_texts : (name : List ℕ) (others : List (List ℕ)) (rest : List ℕ) → length name ≢ 0
-    → texts_fault (name ∷ others) rest ≡ mode_fault (2 + (length name + 1)) others rest
-named_texts [] others rest h = absurd (h refl)
-named_texts (c ∷ name) others rest h = refl
 
 -- past an option the first fault is that of the rest
 pub option_skipped : (at : ℕ) (bytes name after value rest : List ℕ) → BeginsWith bytes name after → length name ≢ 0
@@ -58,10 +47,7 @@ pub request_skipped : (bytes name after word rest : List ℕ) (mode : Mode) → 
     → length bytes ≤ MAX_REQUEST → length (drop 2 bytes) ≡ length bytes - 2 → BeginsWith (drop 2 bytes) name after
     → length name ≢ 0 → BeginsWith after word rest → mode_in word ≡ Some mode
     → request_fault bytes ≡ bytes_fault (length bytes - length rest) rest
-request_skipped bytes name after word rest mode least most shorter n h w m =
-    let offset : 2 + (length name + 1) + (length word + 1) ≡ length bytes - length rest = omega (arith, n.2, w.2) in
-    rw (le-ltb MAX_REQUEST (length bytes) most, n.0, n.1, named_texts name (texts after) (unended after) h, w.0, w.1, m)
-    (ap (λ k. options_fault k (texts rest) (unended rest)) offset)
+request_skipped bytes name after word rest mode least most shorter n h w m = search rules
 
 -- the request of a file name, a mode and options
 pub request_parts : (bytes name after word rest : List ℕ) (mode : Mode) (options : List RawOption)
@@ -79,11 +65,7 @@ first_joined b (t ∷ ts) u = refl
 -- the texts, each with its zero byte, and the bytes that no zero byte ends are all of the bytes
 pub texts_joined : (bs : List ℕ) → flat_map zero_ended (texts bs) ++ unended bs ≡ bs
 texts_joined [] = refl
-texts_joined (b ∷ bs) = ⊎_elim
-    (λ q. rw q.0
-    (ap (λ c. c ∷ (flat_map zero_ended (texts bs) ++ unended bs)) (sym q.1) ∙ ap (λ r. b ∷ r) (texts_joined bs)))
-    (λ q. rw q.0 (first_joined b (texts bs) (unended bs) ∙ ap (λ r. b ∷ r) (texts_joined bs)))
-    (eqb_tells b 0)
+texts_joined (b ∷ bs) = search (rules, first_joined, eqb_tells, texts_joined bs)
 
 first_texts : (b : ℕ) (ts : List (List ℕ)) → b ≢ 0 → AllByRecursion IsText ts → AllByRecursion IsText (with_first b ts)
 first_texts b [] n h = tt
@@ -122,11 +104,7 @@ options_whole at ((c ∷ name) ∷ value ∷ ts) u t h =
 pub options_fine : (at : ℕ) (bytes : List ℕ) → bytes_fault at bytes ≡ None → AreOptions bytes
 options_fine at bytes h =
     let r = options_whole at (texts bytes) (unended bytes) (texts_each bytes) h in
-    record {
-      whole =
-          r.1 ∙ sym (append-nil _) ∙ ap (λ u. flat_map zero_ended (texts bytes) ++ u) (sym r.0) ∙ texts_joined bytes;
-      each = r.2;
-    }
+    search (r.1 ∙ sym (append-nil _) ∙ ap (λ u. flat_map zero_ended (texts bytes) ++ u) (sym r.0) ∙ texts_joined bytes)
 
 -- no bytes, no fault
 pub nothing_left : (at : ℕ) (bytes : List ℕ) → length bytes ≡ 0 → bytes_fault at bytes ≡ None
@@ -143,10 +121,7 @@ guard_none false e y h = (refl, h)
 
 text_left : (text : List ℕ) (ts : List (List ℕ)) (u rest : List ℕ) → flat_map zero_ended ts ++ u ≡ rest
     → length rest ≢ 0 → message_fault (text ∷ ts) u ≡ Some (record { kind = Trailing; at = 4 + (length text + 1) })
-text_left text [] [] rest e h = absurd (h (sym (ap length e)))
-text_left text [] (b ∷ u) rest e h = refl
-text_left text (t ∷ ts) [] rest e h = refl
-text_left text (t ∷ ts) (b ∷ u) rest e h = refl
+text_left text ts u rest e h = search rules
 
 -- the bytes after a packet
 trailing_is : (b : Bool) (x fault : PacketFault) → cond (not b) (Some x) None ≡ Some fault
@@ -161,11 +136,4 @@ pub error_trailing : (bytes text rest : List ℕ) (fault : PacketFault) → leng
     ≡ Some fault
     → error_fault bytes ≡ Some fault
 error_trailing bytes text rest fault most number shorter t found =
-    let long : ltb (length bytes) 4 ≡ false = (guard_none _ _ _ number).0 in
-    let least : 4 ≤ length bytes = ltb-false _ _ long in
-    let f =
-    trailing_is (eqb (length rest) 0) (record { kind = Trailing; at = length bytes - length rest }) fault found in
-    let offset : 4 + (length text + 1) ≡ length bytes - length rest = omega (arith, t.2) in
-    rw (le-ltb MAX_REQUEST (length bytes) most, long, t.0, t.1)
-    (text_left text (texts rest) (unended rest) rest (texts_joined rest) (eqb-false _ _ f.0)
-    ∙ ap (λ k. Some (record { kind = Trailing; at = k })) offset ∙ f.1)
+    search (rules, guard_none, ltb-false, trailing_is, le-ltb, text_left, texts_joined, eqb-false)

@@ -1,20 +1,18 @@
 -- Bytes that spell a packet have no fault and decode to it; bytes without a fault spell a packet. For six functions
 -- and four other crates.
-use Rattle.std.proofs.Common.{ℕ, ◌≡◌, ◌≢◌, ◌+◌, ◌/◌, ◌%◌, ◌<◌, ◌≤◌, ◌^◌, ◌⊎◌, Bool, true, false, cond, eqb, leb, ltb, ◌&&◌, ⊎_elim}
-use Rattle.std.proofs.Common.{inl, inr, refl, ap, sym, ◌∙◌, arith, List, [], ◌∷◌, ◌++◌, length, get_or, drop, Some}
-use Rattle.std.proofs.Common.{None, is_none, unwrap_or, codes, rules, Result, Ok, Err, IfOk, IfErr, IsOkAnd}
-use Rattle.std.proofs.Common.{MatchResult}
+use Rattle.std.proofs.lemmas.Grind.{common_steps}
+use Rattle.std.proofs.Common.{ℕ, ◌≡◌, ◌≢◌, ◌+◌, ◌<◌, ◌≤◌, ◌^◌, ◌⊎◌, Bool, true, false, cond, eqb, ltb, ⊎_elim, inl, inr}
+use Rattle.std.proofs.Common.{refl, ap, sym, ◌∙◌, arith, List, [], ◌∷◌, ◌++◌, length, get_or, drop, None, is_none}
+use Rattle.std.proofs.Common.{unwrap_or, rules, Result, Ok, Err, IfOk, IfErr, IsOkAnd, MatchResult}
 use Rattle.std.specs.Borrow.{Bor}
 use Rattle.std.specs.List.{AllByRecursion, flat_map}
 use Rattle.std.specs.Char.{to_ascii_lowercase}
-use Rattle.std.specs.Str.{str_to_ascii_lowercase, str_eq_ignore_ascii_case, bytes_eq}
-use Rattle.std.proofs.lemmas.Bool.{le-ltb, leb-true, ltb-false, eqb-false, eqb-true, ne_eqb}
+use Rattle.std.specs.Str.{str_to_ascii_lowercase}
+use Rattle.std.proofs.lemmas.Bool.{le-ltb, ltb-false, eqb-false, eqb-true, ne_eqb}
 use Rattle.std.proofs.lemmas.List.{append-nil, append_assoc, length-append, length-map, length-drop, get_or-drop}
-use Rattle.std.proofs.lemmas.List.{drop-drop}
 use Rattle.std.proofs.Math.ListN.{drop_of_length-le}
-use Rattle.std.proofs.lemmas.Slice.Eq.{bytes_eq-Decides}
 use Rattle.byteorder.specs.Endian.{big_bytes, big_number}
-use Rattle.byteorder.specs.Numbers.{big_number-reads_back, big_from-lt}
+use Rattle.byteorder.specs.Numbers.{big_number-reads_back}
 use Rattle.tftp_wire.specs.declared.fault.PacketFault.{PacketFault}
 use Rattle.tftp_wire.specs.declared.limits.TheConstants.{MAX_DATA, MAX_REQUEST}
 use Rattle.tftp_wire.specs.declared.mode.Mode.{Mode}
@@ -35,8 +33,7 @@ use Rattle.tftp_wire.specs.Borrowed.{owned}
 use Rattle.tftp_wire.specs.Faults.{out_of_memory, IsFailure}
 use Rattle.tftp_wire.specs.declared.packet.PacketRef.{PacketRef}
 use Rattle.tftp_wire.proofs.TextsLemmas.{texts_first, unended_rest}
-use Rattle.tftp_wire.proofs.ReadingLemmas.{named_option, named_texts, guard_none, texts_joined, texts_each}
-use Rattle.tftp_wire.proofs.ReadingLemmas.{options_whole, options_fine}
+use Rattle.tftp_wire.proofs.ReadingLemmas.{guard_none, texts_joined, texts_each, options_whole, options_fine}
 
 -- ---- the words of modes
 
@@ -51,31 +48,11 @@ mode_text Netascii = search rules
 word_text : (mode : Mode) (word : List ℕ) → str_to_ascii_lowercase word ≡ mode_word mode → IsText word
 word_text mode word h = lower_text word (rw h (mode_text mode))
 
-mode_of_word : (mode : Mode) (word : List ℕ) → str_to_ascii_lowercase word ≡ mode_word mode → mode_in word ≡ Some mode
-mode_of_word Octet word h = rw h refl
-mode_of_word Netascii word h = rw h refl
-
-same_bytes : (xs ys : List ℕ) → bytes_eq xs ys ≡ true → xs ≡ ys
-same_bytes xs ys h = (bytes_eq-Decides xs ys).0 h
-
-is_mode : (b d : Bool) → is_none (cond b (Some Octet) (cond d (Some Netascii) None)) ≡ false
-    → ((b ≡ true) ⊎ ((b ≡ false) × (d ≡ true)))
-is_mode true d h = inl refl
-is_mode false true h = inr (refl, refl)
-is_mode false false h = cc
-
 word_of_mode : (word : List ℕ) → is_none (mode_in word) ≡ false
     → str_to_ascii_lowercase word ≡ mode_word (unwrap_or (mode_in word) Octet)
-word_of_mode word h = ⊎_elim
-    (λ q. rw q (same_bytes _ _ q))
-    (λ q. rw (q.0, q.1) (same_bytes _ _ q.1))
-    (is_mode (str_eq_ignore_ascii_case word (codes "octet")) (str_eq_ignore_ascii_case word (codes "netascii")) h)
+word_of_mode word h = search rules
 
 -- ---- bytes that spell a packet have no fault, and decode to it
-
-nonempty : (xs : List ℕ) → xs ≢ [] → length xs ≢ 0
-nonempty [] h e = h refl
-nonempty (x ∷ xs) h e = absurd (omega arith)
 
 options_spelled : (at : ℕ) (os : List RawOption) → AllByRecursion IsOption os
     → (options_fault at (texts (options_bytes os)) (unended (options_bytes os)) ≡ None)
@@ -85,15 +62,12 @@ options_spelled at (o ∷ os) h =
     let more = options_bytes os in
     let whole = append_assoc (zero_ended o.name) (zero_ended o.value) more in
     let t : texts (options_bytes (o ∷ os)) ≡ o.name ∷ o.value ∷ texts more =
-    ap texts whole ∙ texts_first o.name (zero_ended o.value ++ more) h.0.name
-    ∙ ap (λ ts. o.name ∷ ts) (texts_first o.value more h.0.value) in
+    ap texts whole ∙ texts_first o.name (zero_ended o.value ++ more) h.0.name ∙ ap (λ ts. o.name ∷ ts) (texts_first
+    o.value more h.0.value) in
     let u : unended (options_bytes (o ∷ os)) ≡ unended more =
-    ap unended whole ∙ unended_rest o.name (zero_ended o.value ++ more) h.0.name
-    ∙ unended_rest o.value more h.0.value in
-    let r = options_spelled (at + (length o.name + 1) + (length o.value + 1)) os h.1 in (
-      rw (t, u) (named_option at o.name o.value (texts more) (unended more) (nonempty o.name h.0.named) ∙ r.0),
-      rw t (ap (λ rest. o ∷ rest) r.1),
-    )
+    ap unended whole ∙ unended_rest o.name (zero_ended o.value ++ more) h.0.name ∙ unended_rest o.value more h.0.value
+    in
+    let r = options_spelled (at + (length o.name + 1) + (length o.value + 1)) os h.1 in search rules
 
 request_spelled : (opcode : ℕ) (word : List ℕ) (r : Request) → IsRequest r
     → str_to_ascii_lowercase word ≡ mode_word r.mode → length (request_bytes opcode word r) ≤ MAX_REQUEST
@@ -107,16 +81,8 @@ request_spelled opcode word r v m limit =
     texts_first r.name (zero_ended word ++ more) v.name ∙ ap (λ ts. r.name ∷ ts) (texts_first word more w) in
     let u : unended body ≡ unended more =
     unended_rest r.name (zero_ended word ++ more) v.name ∙ unended_rest word more w in
-    let o = options_spelled (2 + (length r.name + 1) + (length word + 1)) r.options v.options in (
-      rw (
-        le-ltb MAX_REQUEST (length (request_bytes opcode word r)) limit,
-        t,
-        u,
-        named_texts r.name (word ∷ texts more) (unended more) (nonempty r.name v.named),
-        mode_of_word r.mode word m,
-      ) o.0,
-      rw (t, mode_of_word r.mode word m, o.1) refl,
-    )
+    let o = options_spelled (2 + (length r.name + 1) + (length word + 1)) r.options v.options in search rules steps
+    1000000
 
 -- the opcode decides
 head_decides : (bytes : List ℕ) (opcode : ℕ) → 2 ≤ length bytes → big_number 2 bytes ≡ opcode
@@ -140,12 +106,7 @@ requests_spelled opcode word r v limit m =
 
 data_spelled : (block : ℕ) (bytes : List ℕ) → IsValid (Data block bytes) → let all = written [] (Data block bytes) in
     (data_fault all ≡ None) × (big_number 2 (drop 2 all) ≡ block)
-data_spelled block bytes v =
-    let number = big_number-reads_back 2 block bytes v.1 in
-    let all = written [] (Data block bytes) in
-    let most : length all ≤ MAX_DATA = omega arith in
-    let least : 4 ≤ length all = omega arith in
-    (rw (le-ltb MAX_DATA (length all) most, le-ltb (length all) 4 least, number, ne_eqb block 0 v.0) refl, number)
+data_spelled block bytes v = search rules
 
 error_spelled : (code : ℕ) (text : List ℕ) → IsValid (Error code text) → let all = written [] (Error code text) in
     (error_fault all ≡ None) × (big_number 2 (drop 2 all) ≡ code) × (first_of (texts (drop 4 all)) ≡ text)
@@ -153,22 +114,13 @@ error_spelled code text v =
     let all = written [] (Error code text) in
     let number = big_number-reads_back 2 code (zero_ended text) v.0 in
     let least : 4 ≤ length all = omega arith in
-    let t : texts (zero_ended text) ≡ text ∷ [] =
-    ap texts (sym (append-nil (zero_ended text))) ∙ texts_first text [] v.1 in
-    let u : unended (zero_ended text) ≡ [] =
-    ap unended (sym (append-nil (zero_ended text))) ∙ unended_rest text [] v.1 in
+    let t = ap texts (sym (append-nil (zero_ended text))) ∙ texts_first text [] v.1 in
+    let u = ap unended (sym (append-nil (zero_ended text))) ∙ unended_rest text [] v.1 in
     (rw (le-ltb MAX_REQUEST (length all) v.2, le-ltb (length all) 4 least, t, u) refl, number, rw t refl)
 
 options_longer : (os : List RawOption) → os ≢ [] → length (options_bytes os) ≢ 0
 options_longer [] h e = h refl
-options_longer (o ∷ os) h e =
-    absurd (omega (
-      arith,
-      length-append (zero_ended o.name ++ zero_ended o.value) (options_bytes os),
-      length-append (zero_ended o.name) (zero_ended o.value),
-      length-append o.name (0 ∷ []),
-      e,
-    ))
+options_longer (o ∷ os) h e = grind (arith, common_steps)
 
 oack_spelled : (os : List RawOption) → IsValid (Oack os) → let all = written [] (Oack os) in
     (oack_fault all ≡ None) × (options_in (drop 2 all) ≡ os)
@@ -226,16 +178,7 @@ chosen false x y z h = inr (refl, h)
 -- two bytes are the number that they spell
 number_back : (bytes : List ℕ) → 2 ≤ length bytes → ((k : ℕ) → get_or bytes k 0 < 256)
     → bytes ≡ big_bytes 2 (big_number 2 bytes) ++ drop 2 bytes
-number_back [] l h = absurd (omega arith)
-number_back (a ∷ []) l h = absurd (omega arith)
-number_back (a ∷ b ∷ rest) l h =
-    let a' : a < 256 = h 0 in
-    let b' : b < 256 = h 1 in
-    let n = big_number 2 (a ∷ b ∷ rest) in
-    let q : n / 256 ≡ a = omega arith in
-    let high : n / 256 % 256 ≡ a = rw q (omega arith) in
-    let low : n % 256 ≡ b = omega arith in
-    sym (ap (λ x. x ∷ n % 256 ∷ rest) high ∙ ap (λ x. a ∷ x ∷ rest) low)
+number_back bytes l h = search rules
 
 named : (c : ℕ) (name : List ℕ) → (c ∷ name) ≢ []
 named c name h = cc
@@ -253,17 +196,7 @@ texts_whole [] u t h = absurd (cc)
 texts_whole ([] ∷ ts) u t h = absurd (cc)
 texts_whole ((c ∷ name) ∷ []) u t h = absurd (cc)
 texts_whole ((c ∷ name) ∷ word ∷ ts) u t h =
-    let m = guard_none (is_none (mode_in word)) _ _ h in
-    let o = options_whole _ ts u t.1.1 m.1 in
-    record {
-      word = word;
-      request = record { named = named c name; name = t.0; options = o.2 };
-      mode = word_of_mode word m.0;
-      all =
-          ap (λ v. flat_map zero_ended ((c ∷ name) ∷ word ∷ ts) ++ v) o.0
-          ∙ append-nil (flat_map zero_ended ((c ∷ name) ∷ word ∷ ts))
-          ∙ ap (λ r. zero_ended (c ∷ name) ++ (zero_ended word ++ r)) (sym o.1);
-    }
+    search (rules, guard_none, options_whole, named, word_of_mode, append-nil)
 
 request_whole : (opcode : ℕ) (bytes : List ℕ) → bytes ≡ big_bytes 2 opcode ++ drop 2 bytes → request_fault bytes ≡ None
     → (w : Whole (texts (drop 2 bytes)) (unended (drop 2 bytes)))
@@ -273,34 +206,17 @@ request_whole opcode bytes start h =
     let w = texts_whole (texts (drop 2 bytes)) (unended (drop 2 bytes)) (texts_each (drop 2 bytes)) g.1 in
     (w, start ∙ ap (λ body. big_bytes 2 opcode ++ body) (sym (texts_joined (drop 2 bytes)) ∙ w.all), ltb-false _ _ g.0)
 
-request_limit : (opcode : ℕ) (word bytes : List ℕ) (r : Request) → str_to_ascii_lowercase word ≡ mode_word r.mode
-    → bytes ≡ request_bytes opcode word r → length bytes ≤ MAX_REQUEST
-    → length (request_bytes opcode (mode_word r.mode) r) ≤ MAX_REQUEST
-request_limit opcode word bytes r m e limit =
-    let same = request_length opcode word (mode_word r.mode) r (word_length word (mode_word r.mode) m) in
-    omega (arith, ap length e)
-
 read_whole : (bytes : List ℕ) → bytes ≡ big_bytes 2 1 ++ drop 2 bytes → request_fault bytes ≡ None
     → Spells (Read (request_of (texts (drop 2 bytes)))) bytes
 read_whole bytes start h =
     let w = request_whole 1 bytes start h in
-    record {
-      valid = (w.0.request, request_limit 1 w.0.word bytes _ w.0.mode w.1 w.2);
-      word = w.0.word;
-      mode = w.0.mode;
-      whole = w.1;
-    }
+    grind (arith, common_steps)
 
 write_whole : (bytes : List ℕ) → bytes ≡ big_bytes 2 2 ++ drop 2 bytes → request_fault bytes ≡ None
     → Spells (Write (request_of (texts (drop 2 bytes)))) bytes
 write_whole bytes start h =
     let w = request_whole 2 bytes start h in
-    record {
-      valid = (w.0.request, request_limit 2 w.0.word bytes _ w.0.mode w.1 w.2);
-      word = w.0.word;
-      mode = w.0.mode;
-      whole = w.1;
-    }
+    grind (arith, common_steps)
 
 -- the second number too
 second_back : (opcode : ℕ) (bytes : List ℕ) → bytes ≡ big_bytes 2 opcode ++ drop 2 bytes → 4 ≤ length bytes
@@ -310,12 +226,7 @@ second_back : (opcode : ℕ) (bytes : List ℕ) → bytes ≡ big_bytes 2 opcode
 second_back opcode bytes start least h =
     let rest = drop 2 bytes in
     let small : (k : ℕ) → get_or rest k 0 < 256 = λ k. rw get_or-drop (h (2 + k)) in
-    let two : 2 ≤ length rest = omega (arith, length-drop 2 bytes) in (
-      start
-          ∙ ap (λ r. big_bytes 2 opcode ++ r)
-          (number_back rest two small ∙ ap (λ r. big_bytes 2 (big_number 2 rest) ++ r) (drop-drop 2 2 bytes)),
-      big_from-lt 0 2 rest small,
-    )
+    let two : 2 ≤ length rest = omega (arith, length-drop 2 bytes) in search rules
 
 data_whole : (bytes : List ℕ) → bytes ≡ big_bytes 2 3 ++ drop 2 bytes → ((k : ℕ) → get_or bytes k 0 < 256)
     → data_fault bytes ≡ None → Spells (packet_of 3 bytes) bytes
@@ -326,12 +237,7 @@ data_whole bytes start h f =
     let l : 4 ≤ length bytes = ltb-false _ _ least.0 in
     let m : length bytes ≤ MAX_DATA = ltb-false _ _ most.0 in
     let s = second_back 3 bytes start l h in
-    record {
-      valid = (eqb-false _ _ zero.0, s.1, omega (arith, length-drop 4 bytes));
-      word = [];
-      mode = refl;
-      whole = s.0;
-    }
+    search rules
 
 ack_whole : (bytes : List ℕ) → bytes ≡ big_bytes 2 4 ++ drop 2 bytes → ((k : ℕ) → get_or bytes k 0 < 256)
     → ack_fault bytes ≡ None → Spells (packet_of 4 bytes) bytes
@@ -342,20 +248,11 @@ ack_whole bytes start h f =
     let m : length bytes ≤ 4 = ltb-false _ _ most.0 in
     let s = second_back 4 bytes start l h in
     let e : drop 4 bytes ≡ [] = drop_of_length-le bytes m in
-    record {
-      valid = s.1;
-      word = [];
-      mode = refl;
-      whole = s.0 ∙ ap (λ r. big_bytes 2 4 ++ (big_bytes 2 (big_number 2 (drop 2 bytes)) ++ r)) e;
-    }
+    search rules
 
 message_whole : (ts : List (List ℕ)) (u : List ℕ) → AllByRecursion IsText ts → message_fault ts u ≡ None
     → IsText (first_of ts) × (flat_map zero_ended ts ++ u ≡ zero_ended (first_of ts))
-message_whole [] u t h = absurd (cc)
-message_whole (text ∷ []) [] t h = (t.0, append-nil _ ∙ append-nil _)
-message_whole (text ∷ []) (b ∷ u) t h = absurd (cc)
-message_whole (text ∷ other ∷ ts) [] t h = absurd (cc)
-message_whole (text ∷ other ∷ ts) (b ∷ u) t h = absurd (cc)
+message_whole ts u t h = search rules
 
 error_whole : (bytes : List ℕ) → bytes ≡ big_bytes 2 5 ++ drop 2 bytes → ((k : ℕ) → get_or bytes k 0 < 256)
     → error_fault bytes ≡ None → Spells (packet_of 5 bytes) bytes
@@ -374,24 +271,7 @@ error_whole bytes start h f =
 
 oack_whole : (bytes : List ℕ) → bytes ≡ big_bytes 2 6 ++ drop 2 bytes → oack_fault bytes ≡ None
     → Spells (Oack (options_in (drop 2 bytes))) bytes
-oack_whole bytes start f =
-    let most = guard_none (ltb MAX_REQUEST (length bytes)) _ _ f in
-    let some = guard_none (eqb (length bytes) 2) _ _ most.1 in
-    let m : length bytes ≤ MAX_REQUEST = ltb-false _ _ most.0 in
-    let o = options_fine 2 (drop 2 bytes) some.1 in
-    let whole : bytes ≡ big_bytes 2 6 ++ options_bytes (options_in (drop 2 bytes)) =
-    start ∙ ap (λ r. big_bytes 2 6 ++ r) (sym o.whole) in
-    let long : length bytes ≢ 2 = eqb-false _ _ some.0 in
-    record {
-      valid = (
-        (λ e. long (ap length (whole ∙ ap (λ os. big_bytes 2 6 ++ options_bytes os) e))),
-        o.each,
-        omega (arith, ap length whole),
-      );
-      word = [];
-      mode = refl;
-      whole = whole;
-    }
+oack_whole bytes start f = search (rules, guard_none, ltb-false, options_fine, eqb-false)
 
 opcode_whole : (opcode : ℕ) (bytes : List ℕ) → bytes ≡ big_bytes 2 opcode ++ drop 2 bytes
     → ((k : ℕ) → get_or bytes k 0 < 256) → opcode_fault opcode bytes ≡ None → Spells (packet_of opcode bytes) bytes
@@ -411,9 +291,7 @@ opcode_whole opcode bytes start h f =
 
 -- bytes that spell none have a fault
 pub fault_where_nothing : FaultWhereNothing
-fault_where_nothing bytes h f =
-    let g = guard_none (ltb (length bytes) 2) _ _ f in
-    opcode_whole (big_number 2 bytes) bytes (number_back bytes (ltb-false _ _ g.0) h) h g.1
+fault_where_nothing bytes h f = search (rules, guard_none, opcode_whole, number_back, ltb-false)
 
 -- ---- the clauses of `decode_ref`
 
@@ -431,15 +309,9 @@ only_spelled bytes (Err f) p s e = let n = spelled_has_no_fault p bytes s in abs
 
 -- ---- the clauses of `data_in`
 
-both : (x y : Bool) → (x && y) ≡ true → (x ≡ true) × (y ≡ true)
-both true y e = (refl, e)
-both false y e = absurd (cc)
-
 -- what begins with the opcode of DATA has its two bytes
 pub opcode_of_data : (bytes : List ℕ) → starts_as_data bytes ≡ true → (2 ≤ length bytes) × (big_number 2 bytes ≡ 3)
-opcode_of_data bytes e =
-    let h = both (leb 2 (length bytes)) (eqb (big_number 2 bytes) 3) e in
-    (leb-true 2 (length bytes) h.0, eqb-true (big_number 2 bytes) 3 h.1)
+opcode_of_data bytes e = search rules
 
 -- what is read of a datagram with the opcode of DATA is its block
 pub block_found : (bytes : List ℕ) (r : Result (ℕ × Bor (List ℕ)) PacketFault) → ((k : ℕ) → get_or bytes k 0 < 256)

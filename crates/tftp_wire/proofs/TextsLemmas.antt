@@ -1,12 +1,12 @@
 -- The end of a text, and the bytes after it. For `split_text`, OptionsLemmas, ReadingLemmas and SpellingLemmas.
-use Rattle.std.proofs.Common.{ℕ, suc, ◌≡◌, ◌+◌, ◌-◌, ◌<◌, ◌≤◌, Bool, true, false, cond, eqb, ltb, refl, ap, sym, ◌∙◌}
-use Rattle.std.proofs.Common.{arith, List, [], ◌∷◌, ◌++◌, length, get_or, take, drop, Some, None, add-one}
+use Rattle.std.proofs.Common.{ℕ, suc, ◌≡◌, ◌+◌, ◌-◌, ◌<◌, Bool, false, eqb, refl, ap, sym, ◌∙◌, arith, List, [], ◌∷◌}
+use Rattle.std.proofs.Common.{◌++◌, length, get_or, take, drop, Some, None, add-one, rules}
 use Rattle.std.proofs.lemmas.Bool.{ltb-false, eqb-false, eqb-true, ne_eqb}
 use Rattle.std.proofs.lemmas.List.{take-append-drop, append_assoc, get_or-take, length-take-le, take_rest}
 use Rattle.std.proofs.lemmas.List.Quantifiers.{position-Some}
 use Rattle.std.proofs.lemmas.List.Sums.{fails_before_first}
 use Rattle.std.proofs.Math.Seq.{drop-cons}
-use Rattle.std.specs.List.{position, position_or_len}
+use Rattle.std.specs.List.{position}
 use Rattle.tftp_wire.specs.Texts.{IsText, zero_ended, texts, with_first, unended}
 
 abbrev is_zero : ℕ → Bool
@@ -20,15 +20,7 @@ text_from_indices (b ∷ bs) h =
 
 -- without a zero byte, the bytes are a text
 pub text_from_none : (bs : List ℕ) → position is_zero bs ≡ None → IsText bs
-text_from_none bs h =
-    text_from_indices bs
-    (λ k l. fails_before_first is_zero bs k 0
-    (past (ltb (position_or_len is_zero bs) (length bs)) refl h k l)) where
-      past : (b : Bool) → ltb (position_or_len is_zero bs) (length bs) ≡ b
-          → cond b (Some (position_or_len is_zero bs)) None ≡ None → (k : ℕ) → k < length bs
-          → k < position_or_len is_zero bs
-      past true e n k l = absurd (cc)
-      past false e n k l = let m : length bs ≤ position_or_len is_zero bs = ltb-false _ _ e in omega arith
+text_from_none bs h = search (rules, text_from_indices, fails_before_first, ltb-false)
 
 -- the index of the first zero byte splits the bytes
 pub text_from_some : (bs : List ℕ) (n : ℕ) → position is_zero bs ≡ Some n

@@ -1,40 +1,23 @@
 -- A line has at most three bytes for each byte of its packet, and forty.
-use Rattle.std.proofs.Common.{arith, ap, length, ◌≡◌, ◌≤◌, ◌<◌, ◌+◌, ◌*◌, ◌^◌}
+use Rattle.std.proofs.Common.{arith, rules}
 use Rattle.tftp_wire.specs.Line.{line}
-use Rattle.tftp_wire.specs.Spelling.{canonical}
 use Rattle.tftp_wire.proofs.LineLemmas.{read_fits, write_fits, data_fits, ack_fits, error_fits, oack_fits}
 use Rattle.tftp_wire.proofs.line.line_room.Goals as goal
 
 pub returns-in-Read : goal.returns-in-Read
-returns-in-Read c =
-    let p = c.args.packet.now in
-    let fits : length (line p) ≤ 3 * length (canonical p) + 40 = rw c.in-Read.is (read_fits _) in
-    omega (arith, fits, c.canonical_len.ensures, c.shown_room.ensures)
+returns-in-Read c = search (rules, read_fits)
 
 pub returns-in-Write : goal.returns-in-Write
-returns-in-Write c =
-    let p = c.args.packet.now in
-    let fits : length (line p) ≤ 3 * length (canonical p) + 40 = rw c.in-Write.is (write_fits _) in
-    omega (arith, fits, c.canonical_len-in-Write.ensures, c.shown_room-in-Write.ensures)
+returns-in-Write c = search (rules, write_fits)
 
 pub returns-in-Error : goal.returns-in-Error
-returns-in-Error c =
-    let p = c.args.packet.now in
-    let fits : length (line p) ≤ 3 * length (canonical p) + 40 =
-    rw c.in-Error.is (error_fits c.in-Error.code _ (omega arith)) in
-    omega (arith, fits, c.canonical_len-in-Error.ensures, c.shown_room-in-Error.ensures)
+returns-in-Error c = search (rules, error_fits)
 
 pub returns-in-Oack : goal.returns-in-Oack
-returns-in-Oack c =
-    let p = c.args.packet.now in
-    let fits : length (line p) ≤ 3 * length (canonical p) + 40 = rw c.in-Oack.is (oack_fits _) in
-    omega (arith, fits, c.canonical_len-in-Oack.ensures, c.shown_room-in-Oack.ensures)
+returns-in-Oack c = search (rules, oack_fits)
 
 pub returns-in-Data : goal.returns-in-Data
-returns-in-Data c =
-    let bytes : c.as_slice.result.now ≡ c.in-Data.bytes = c.as_slice.ensures in
-    let small : length c.in-Data.bytes < 2 ^ 64 = omega (arith, ap length bytes) in
-    rw c.in-Data.is (omega (arith, data_fits c.in-Data.block c.in-Data.bytes (omega arith) small))
+returns-in-Data c = search (rules, data_fits)
 
 pub returns-in-Ack : goal.returns-in-Ack
 returns-in-Ack c = rw c.in-Ack.is (omega (arith, ack_fits c.in-Ack.block (omega arith)))

@@ -1,5 +1,5 @@
 -- A line has at most three bytes for each byte of its packet, and forty.
-use Rattle.std.proofs.Common.{arith, length, ◌≤◌, ◌+◌, ◌*◌}
+use Rattle.std.proofs.Common.{arith, length, ◌≤◌, ◌+◌, ◌*◌, rules}
 use Rattle.tftp_wire.specs.Borrowed.{owned}
 use Rattle.tftp_wire.specs.Line.{line}
 use Rattle.tftp_wire.specs.Spelling.{canonical}
@@ -19,21 +19,13 @@ returns-in-Write c =
     omega (arith, fits, c.canonical_len_ref-in-Write.ensures, c.shown_room-in-Write.ensures)
 
 pub returns-in-Error : goal.returns-in-Error
-returns-in-Error c =
-    let p = owned c.args.packet.now in
-    let fits : length (line p) ≤ 3 * length (canonical p) + 40 =
-    rw c.in-Error.is (error_fits c.in-Error.code _ (omega arith)) in
-    omega (arith, fits, c.canonical_len_ref-in-Error.ensures, c.shown_room-in-Error.ensures)
+returns-in-Error c = search (rules, error_fits)
 
 pub returns-in-Oack : goal.returns-in-Oack
-returns-in-Oack c =
-    let p = owned c.args.packet.now in
-    let fits : length (line p) ≤ 3 * length (canonical p) + 40 = rw c.in-Oack.is (oack_fits _) in
-    omega (arith, fits, c.canonical_len_ref-in-Oack.ensures, c.shown_room-in-Oack.ensures)
+returns-in-Oack c = search (rules, oack_fits)
 
 pub returns-in-Data : goal.returns-in-Data
-returns-in-Data c =
-    rw c.in-Data.is (omega (arith, data_fits c.in-Data.block c.in-Data.bytes.now (omega arith) (omega arith)))
+returns-in-Data c = search (rules, data_fits)
 
 pub returns-in-Ack : goal.returns-in-Ack
 returns-in-Ack c = rw c.in-Ack.is (omega (arith, ack_fits c.in-Ack.block (omega arith)))

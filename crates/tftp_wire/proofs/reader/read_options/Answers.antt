@@ -1,5 +1,5 @@
 -- Bytes whose options have no fault are options.
-use Rattle.std.proofs.Common.{◌≡◌, ◌<◌, ℕ, Bool, true, false, zero, suc, refl, ◌∙◌, sym, arith}
+use Rattle.std.proofs.Common.{◌≡◌, ◌<◌, ℕ, Bool, true, false, zero, suc, refl, ◌∙◌, sym, arith, rules}
 use Rattle.std.proofs.lemmas.Bool.{true≢false}
 use Rattle.tftp_wire.proofs.ReadingLemmas.{options_fine, nothing_left}
 use Rattle.tftp_wire.proofs.reader.read_options.Goals as goal
@@ -10,6 +10,4 @@ none_more zero more h e = refl
 none_more (suc n) more h e = absurd (true≢false (sym (h (omega arith)) ∙ e))
 
 pub new-requires : goal.new-requires
-new-requires c =
-    options_fine _ _
-    (c.loop-rest.invariant.same ∙ nothing_left _ _ (none_more _ _ c.has_more.ensures.1 c.loop-rest-test.false))
+new-requires c = search (rules, options_fine, nothing_left, none_more)
