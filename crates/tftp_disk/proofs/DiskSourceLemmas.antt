@@ -1,7 +1,6 @@
 -- What a source moves from its file and its buffer. For five functions and GivenLemmas.
-use Rattle.std.proofs.Common.{◌≡◌, ◌≤◌, ℕ, ◌+◌, false, if◌then◌else◌, List, [], ◌∷◌, ◌++◌, length, take, drop, Option}
-use Rattle.std.proofs.Common.{Some, None, IsSome, is_some, sym, ap, ◌∙◌, refl, arith, append-nil, append_assoc}
-use Rattle.std.proofs.Common.{length-take-le, take-append-drop, rules}
+use Rattle.std.proofs.Common.{◌≡◌, ◌≤◌, ℕ, ◌+◌, false, List, [], ◌∷◌, ◌++◌, length, take, drop, is_some, sym, ap, ◌∙◌}
+use Rattle.std.proofs.Common.{refl, arith, append-nil, append_assoc, length-take-le, take-append-drop, rules}
 use Rattle.std.proofs.lemmas.Grind.{flat_map-append, common_steps}
 use Rattle.std.proofs.lemmas.List.{drop_all, drop_at, take_at}
 use Rattle.std.proofs.Math.Seq.{take-add}
@@ -10,12 +9,10 @@ use Rattle.tftp_wire.specs.declared.mode.Mode.TheVariants as mode
 use Rattle.tftp_file.specs.Netascii.{wire_byte, wire_text, netascii_text}
 use Rattle.tftp_disk.specs.DiskTrace.{DiskEvent}
 use Rattle.tftp_disk.specs.DiskTrace.DiskEvent.{Given}
-use Rattle.tftp_disk.specs.DiskSource.{source_calls, AppendsRead, GivesPiece, HoldsAhead, Passes}
+use Rattle.tftp_disk.specs.DiskSource.{source_calls, AppendsRead, GivesPiece, Passes}
 use Rattle.tftp_disk.specs.declared.disk_source.DiskSource.{DiskSource}
-use Rattle.std.specs.declared.io.Error.{Error}
-use Rattle.tftp_disk.specs.ReadBuffer.{ReadsSome}
 use Rattle.tftp_disk.specs.DiskSourceLaws.{no_text}
-use Rattle.tftp_disk.proofs.ReadLemmas.{no_length, reads_nothing}
+use Rattle.tftp_disk.proofs.ReadLemmas.{reads_nothing}
 
 -- a read behind what a buffer had, which is then cut after the bytes that were read
 pub appends_read : (before after : List DiskEvent) (old zeros resized lent items full new : List ℕ) (start n : ℕ)
@@ -41,12 +38,6 @@ pub passes_nothing : (mode : Mode) (left : List ℕ) (events : List DiskEvent) (
 passes_nothing mode left events old new same =
     search ([], reads_nothing events, [], same ∙ sym (append-nil old), no_text mode left)
 
--- one piece is moved after another
-pub passes_more : (mode : Mode) (a b c : List ℕ) (before between after : List DiskEvent) (old mid new : List ℕ)
-    (m n : ℕ) → Passes mode a b before between old mid m → Passes mode b c between after mid new n
-    → Passes mode a c before after old new (m + n)
-passes_more mode a b c before between after old mid new m n p q = grind (arith, common_steps)
-
 -- and nothing after it
 pub passes_end : (mode : Mode) (a b c : List ℕ) (before between after : List DiskEvent) (old mid new : List ℕ)
     (m n : ℕ) → Passes mode a b before between old mid m → Passes mode b c between after mid new n → n ≡ 0
@@ -67,10 +58,6 @@ passes_ahead mode ahead rest a events old new want enough appended left =
           (drop want ahead) a ∙ ap (λ l. take want ahead ++ (l ++ a)) (sym left),
     )
 
-no_error : (error : Option Error) → is_some error ≡ false → error ≡ None
-no_error None none = refl
-no_error (Some error) none = absurd cc
-
 module _ {F : Type 0} where
   -- a call that changes nothing gives nothing
   pub gives_unmoved : (before after : DiskSource F) (old new : List ℕ) → after.file ≡ before.file
@@ -88,19 +75,3 @@ module _ {F : Type 0} where
       let p = passes_ahead before.mode _ _ before.buffer (source_calls before) _ _ _ enough appended rest in
       let piece : drop (length old) new ≡ p.piece = search (rules, drop_at) in
       search rules
-
-  ahead_by : (before after : DiskSource F) → before.ahead ≡ [] → after.mode ≡ before.mode → before.error ≡ None
-      → (after.error ≡ None
-      → HoldsAhead before.mode before.buffer after.ahead after.buffer (source_calls before) (source_calls after))
-      → (IsSome after.error → ReadsSome (source_calls before) (source_calls after))
-      → (error : Option Error) → after.error ≡ error → GivesPiece before [] after
-  ahead_by before after empty same_mode sound holds failed error is = search rules
-
-  -- a read ahead gives nothing
-  pub gives_ahead : (before after : DiskSource F) → length before.ahead ≤ 0 → after.mode ≡ before.mode
-      → is_some before.error ≡ false
-      → (after.error ≡ None
-      → HoldsAhead before.mode before.buffer after.ahead after.buffer (source_calls before) (source_calls after))
-      → (IsSome after.error → ReadsSome (source_calls before) (source_calls after)) → GivesPiece before [] after
-  gives_ahead before after empty same_mode sound holds failed =
-      search (rules, ahead_by, no_length, no_error)

@@ -1,12 +1,9 @@
 -- What one pass over a file counts. For `count_netascii` and `count_next`.
-use Rattle.std.proofs.Common.{◌≡◌, ◌≤◌, ◌<◌, ◌+◌, ◌*◌, ℕ, Bool, if◌then◌else◌, List, [], ◌∷◌, length, min, Some, None}
+use Rattle.std.proofs.Common.{◌≡◌, ◌≤◌, ◌<◌, ◌*◌, ℕ, Bool, if◌then◌else◌, List, [], ◌∷◌, length, min, None}
 use Rattle.std.proofs.Common.{arith, rules}
-use Rattle.std.proofs.lemmas.Bool.Decides.{nat_tests}
-use Rattle.std.proofs.lemmas.Grind.{common_steps}
 use Rattle.tftp_disk.specs.DiskTrace.{DiskEvent}
 use Rattle.tftp_disk.specs.DiskTrace.DiskEvent.{Given}
 use Rattle.tftp_disk.specs.Given.{GaveBytes}
-use Rattle.tftp_file.specs.Length.{up_to}
 use Rattle.tftp_file.specs.Netascii.{netascii_text}
 use Rattle.tftp_file.specs.declared.length.TheConstants.{MAX_WIRE}
 use Rattle.tftp_disk.specs.Measuring.{CountsChunk, CountsPass}
@@ -29,38 +26,10 @@ pub record Counted (before after : List DiskEvent) (total : TextLength) : Type 0
   pub count : total.bytes ≡ length bytes
   pub wire : total.wire_bytes ≡ length (netascii_text bytes)
 
--- the count of no bytes
-abbrev pub nothing_counted : TextLength
-nothing_counted = record { bytes = 0; wire_bytes = 0 }
-
--- the counts of two parts together
-abbrev pub sum_of : TextLength → TextLength → TextLength
-sum_of total count =
-    record { bytes = total.bytes + count.bytes; wire_bytes = total.wire_bytes + count.wire_bytes }
-
 -- a file has no more bytes than its text on the wire
 pub few_bytes : (before after : List DiskEvent) (counted : TextLength) → CountsChunk before after counted
     → counted.bytes ≤ counted.wire_bytes
 few_bytes before after counted chunk = search (rules, text_length)
-
--- no calls count nothing
-pub counted_nothing : (events : List DiskEvent) → Counted events events nothing_counted
-counted_nothing events = search rules
-
--- a chunk more adds its count
-pub counted_more : (before between after : List DiskEvent) (total count : TextLength) → Counted before between total
-    → CountsChunk between after count → Counted before after (sum_of total count)
-counted_more before between after total count first next = grind (arith, common_steps)
-
-within_limit : (limit count : ℕ) → count ≤ limit → Some count ≡ up_to limit count
-within_limit limit count within = grind (arith, nat_tests)
-
--- the pass is at the end of the file
-pub counts_all : (before between after : List DiskEvent) (total count : TextLength) → Counted before between total
-    → CountsChunk between after count → count.wire_bytes ≡ 0 → total.wire_bytes ≤ MAX_WIRE
-    → CountsPass before after (Some total)
-counts_all before between after total count first next none within =
-    grind (arith, common_steps, counted_more, text_length, within_limit)
 
 -- the text is too long
 pub counts_past : (before after : List DiskEvent) (total : TextLength) → Counted before after total

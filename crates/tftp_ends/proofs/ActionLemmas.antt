@@ -16,7 +16,7 @@ use Rattle.tftp_ends.specs.declared.outcome.Outcome.TheVariants as outcomes
 use Rattle.tftp_ends.specs.Action.{datagram_action}
 use Rattle.tftp_ends.specs.End.{is_client}
 use Rattle.tftp_ends.specs.Receiver.{data_action, dally_response}
-use Rattle.tftp_ends.specs.Sender.{sender_action, acked_action}
+use Rattle.tftp_ends.specs.Sender.{sender_action}
 use Rattle.tftp_ends.specs.Sound.{IsSound, PhaseFits, ResendsAck, HasAcknowledged}
 use Rattle.tftp_ends.specs.Fits.{SentFits}
 
@@ -175,16 +175,3 @@ pub data_acts_fit : (e : EndState) (from : Endpoint) (bytes : List ℕ) (terms :
 data_acts_fit e from bytes terms stored block piece sound phase spelled =
     subst (λ (p : Phase). BytesFit e bytes (packet_action e from (Some (Data block piece)) p)) phase
     (packet_fits e from bytes (Some (Data block piece)) sound spelled)
-
--- the same of a sender: the ACK of its newest DATA from its peer
-pub ack_acts : (e : EndState) (from : Endpoint) (bytes : List ℕ) (terms : Terms) (number : ℕ) →
-    e.position.phase ≡ Sending terms number →
-    is_wrong_peer (terms_of e.position.phase) e.position.last_sent_to from ≡ false →
-    datagram_action e from bytes (Some (Ack number)) ≡ acked_action e.role.length terms number number
-ack_acts e from bytes terms number phase peer = search rules
-
--- what it requires
-pub ack_acts_fit : (e : EndState) (from : Endpoint) (bytes : List ℕ) (terms : Terms) (number : ℕ) →
-    IsSound e → e.position.phase ≡ Sending terms number → Spells (Ack number) bytes →
-    BytesFit e bytes (acked_action e.role.length terms number number)
-ack_acts_fit e from bytes terms number sound phase spelled = search rules

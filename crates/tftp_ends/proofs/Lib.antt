@@ -3,8 +3,6 @@ pub mod ActionLemmas
 pub mod Appending
 pub mod Lending
 pub mod OneFileLemmas
-pub mod OackLemmas
-pub mod ReadingBlocks
 pub mod RowLemmas
 pub mod SenderRowLemmas
 pub mod ReceiverRowLemmas

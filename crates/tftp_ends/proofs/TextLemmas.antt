@@ -2,18 +2,16 @@
 -- crate tftp_rules.
 use Rattle.tftp_ends.proofs.Common.{◌≡◌, ◌≢◌, ℕ, Bool, true, false, List, [], ◌∷◌, ◌++◌, Result, length, ◌<◌, ◌≤◌, sym}
 use Rattle.tftp_ends.proofs.Common.{refl, ap, ◌∙◌, ◌&&◌, not, ne_eqb, true≢false, lt-ltb, le-ltb, is_readable, Done}
-use Rattle.std.proofs.Common.{ltb, inl, append_assoc, rules}
+use Rattle.std.proofs.Common.{ltb, append_assoc, rules}
 use Rattle.std.specs.Prelude.{◌↔◌}
 use Rattle.std.specs.Result.{IsOk, is_ok}
-use Rattle.tftp_wire.specs.declared.mode.Mode.{Mode}
-use Rattle.tftp_wire.specs.declared.mode.Mode.TheVariants.{Octet, Netascii}
+use Rattle.tftp_wire.specs.declared.mode.Mode.TheVariants.{Netascii}
 use Rattle.tftp_file.specs.Netascii.{wire_byte, netascii_text}
 use Rattle.tftp_file.specs.Decoding.{IsHeldBack, DecodesPiece, IsWrong, Refuses}
 use Rattle.tftp_file.specs.declared.netascii.NetFault.{NetFault}
 use Rattle.tftp_file.specs.declared.netascii.NetFault.TheVariants.{LoneCr, LoneLf, EndsInCr, Memory}
 use Rattle.tftp_ends.specs.Laws.{DecodedBegins, DecodedEnds}
 use Rattle.tftp_ends.specs.Text.{begins_netascii, ends_in_cr}
-use Rattle.tftp_ends.specs.Sound.{HeldBackFits}
 
 -- one host byte before a text
 byte_begins : (b : ℕ) (rest : List ℕ)
@@ -103,8 +101,3 @@ wrong_unreadable held piece last fault w =
 pub readable_begins : (held piece : List ℕ) (last : Bool) → is_readable Netascii held piece last ≡ true
     → begins_netascii (held ++ piece) ≡ true
 readable_begins held piece last e = search (rules, both_true, not)
-
--- an end that opens holds nothing back
-pub nothing_held : (mode : Mode) → HeldBackFits mode []
-nothing_held Octet = refl
-nothing_held Netascii = inl refl

@@ -4,5 +4,4 @@ mod RequestLemmas
 mod RepeatLemmas
 mod ShortageLemmas
 mod CallersLemmas
-mod AppendedLemmas
 pub mod HeldLemmas

@@ -1,8 +1,8 @@
 -- What the request port decides, from the calls that it makes. For four functions.
 use Rattle.std.proofs.lemmas.Grind.{common_steps}
 use Rattle.std.proofs.Common.{◌≡◌, ◌≢◌, ℕ, Bool, false, List, ◌++◌, Option, Some, None, Result, Ok, Err, IfOk, IsErrOf}
-use Rattle.std.proofs.Common.{OnOk, OnErr, length, take, refl, ap, ◌∙◌, arith, rules}
-use Rattle.std.specs.Prelude.{if◌then◌else◌, IsOk}
+use Rattle.std.proofs.Common.{OnOk, OnErr, length, take, refl, ap, arith, rules}
+use Rattle.std.specs.Prelude.{if◌then◌else◌}
 use Rattle.tftp_wire.specs.declared.mode.Mode.{Mode}
 use Rattle.tftp_wire.specs.declared.packet.Packet.{Packet}
 use Rattle.tftp_wire.specs.declared.packet.Request.{Request}
@@ -10,7 +10,6 @@ use Rattle.tftp_negotiate.specs.declared.known.Kind.{Kind}
 use Rattle.tftp_negotiate.specs.declared.known.Kind.TheVariants as kinds
 use Rattle.tftp_negotiate.specs.declared.limits.Limits.{Limits}
 use Rattle.tftp_negotiate.specs.declared.known.Known.{Known}
-use Rattle.tftp_file.specs.Path.{path_of_name}
 use Rattle.tftp_file.specs.Source.{SourceMeaning}
 use Rattle.tftp_file.specs.declared.fault.StoreFault.{StoreFault}
 use Rattle.tftp_file.specs.declared.fault.StoreFault.TheVariants.{Memory}
@@ -28,10 +27,9 @@ use Rattle.tftp_server.specs.declared.opened.Opened.{Opened}
 use Rattle.tftp_server.specs.declared.server.admission.PortAction.{PortAction}
 use Rattle.tftp_server.specs.declared.server.request.Decision.{Decision}
 use Rattle.tftp_server.specs.declared.server.request.Decision.TheVariants.{Refuse, Open}
-use Rattle.tftp_server.specs.Port.{Ask, Ignores, Refuses, asks, by_name, by_kind, begin_reply}
+use Rattle.tftp_server.specs.Port.{Ask, Ignores, Refuses, asks, begin_reply}
 use Rattle.tftp_server.specs.Request.{Acts, Admits, CarriesOut, Came, Error_reply, A_transfer, IsRequest, AsksToWrite}
 use Rattle.tftp_server.specs.Request.{ask_of, came_to, decided_bytes, left_by}
-use Rattle.tftp_server.specs.Shortage.{NamesAPath, NamesNewPath}
 use Rattle.tftp_server.specs.State.{TransferState, ServerState, IsRepeated, with_new}
 use Rattle.tftp_store.specs.Store.{StoreMeaning, Begins}
 
@@ -46,11 +44,6 @@ pub cut_on_err : {T E : Type 0} (before sent all cut : List ℕ) (start : ℕ) (
     all ≡ before ++ sent → cut ≡ take start all → OnErr r (cut ≡ before)
 cut_on_err before sent all cut start r s a c = grind (arith, common_steps)
 
-module _ (cap count : ℕ) (limits : Limits) where
-  -- the tests of the name in a request
-  abbrev pub named : Kind → Request → Ask
-  named kind r = by_name cap count (by_kind kind r.mode r.options limits) (path_of_name r.name)
-
 -- whether a datagram repeats a request, in the server that this one is
 pub repeats_in : {S F D : Type 0} (old seen : ServerState S F D) (from : Endpoint) (repeated : Bool)
     (decoded : Option Packet) → seen ≡ old → IsRepeated repeated from decoded seen.held →
@@ -59,27 +52,10 @@ repeats_in {S = S} {F = F} {D = D} old seen from repeated decoded is h = search 
 
 module _ (cap count : ℕ) (limits : Limits) (bytes : List ℕ) (kind : Kind) (request : Request) (decoded : Option Packet)
     (repeated : Bool) (is : IsRequest decoded (Some (kind, request))) (new : repeated ≡ false) where
-  -- a request that is no repeat is decided by its name
-  named_asks : has_error_opcode bytes ≡ false →
-      named cap count limits kind request ≡ asks cap count repeated limits bytes decoded
-  named_asks test = search rules
-
-  -- so is the action for it
-  pub asked_by_name : {E : Type 0} (r : Result PortAction E) → has_error_opcode bytes ≡ false →
-      IfOk r (λ asked. ask_of asked ≡ named cap count limits kind request) →
-      IfOk r (λ asked. ask_of asked ≡ asks cap count repeated limits bytes decoded)
-  asked_by_name (Ok asked) test h = h ∙ named_asks test
-  asked_by_name (Err fault) test h = tt
-
   -- and when its path is out of memory, the datagram is not one to ignore
   pub acts_by_name : {T E : Type 0} (r : Result T E) → has_error_opcode bytes ≡ false →
       OnErr r (asks cap count repeated limits bytes decoded ≢ Ignores)
   acts_by_name r test = search rules
-
-  -- and its name is a path
-  pub names_a_path : {T E : Type 0} (r : Result T E) → OnErr r (IsOk (path_of_name request.name)) →
-      OnErr r (NamesNewPath repeated decoded)
-  names_a_path r h = search rules
 
 -- the same for the transfers in the table of a server
 module _ {S F D : Type 0} (old : ServerState S F D) (from : Endpoint) (bytes : List ℕ) (decoded : Option Packet)
@@ -98,10 +74,6 @@ module _ {S F D : Type 0} (old : ServerState S F D) (from : Endpoint) (bytes : L
   pub acts_so : {T E : Type 0} (r : Result T E) → OnErr r (asked_now ≢ Ignores) → OnErr r (Acts old from bytes)
   acts_so (Ok done) h = tt
   acts_so (Err fault) h = (asked_now, admits_by asked_now refl, h)
-
-  pub names_so : {T E : Type 0} (r : Result T E) → OnErr r (NamesNewPath repeated decoded) →
-      OnErr r (NamesAPath old from bytes)
-  names_so r h = search rules
 
 module _ {S F D : Type 0} (meaning : StoreMeaning S D) (sources : SourceMeaning F) (old : ServerState S F D)
     (from : Endpoint) (bytes : List ℕ) where
@@ -161,12 +133,6 @@ module _ {S F D : Type 0} (meaning : StoreMeaning S D) (sources : SourceMeaning 
   after_write transfers = record { config = config'; store = store'; held = transfers }
 
   module _ (seen : after_write others ≡ after) (rest : after ≡ record (before_write none) { store = after.store }) where
-    config_kept : config' ≡ config
-    config_kept = ap (λ (s : ServerState S F D). s.config) (seen ∙ rest)
-
-    store_kept : store' ≡ after.store
-    store_kept = ap (λ (s : ServerState S F D). s.store) seen
-
     abbrev Written : ℕ → List ℕ → List ℕ → Opened → Type 0
     Written tid was out opened =
         (came : Came S F D) × (sent : List ℕ) × AsksToWrite meaning sources (before_write held) from bytes path mode
@@ -187,7 +153,3 @@ module _ {S F D : Type 0} (meaning : StoreMeaning S D) (sources : SourceMeaning 
         mid ≡ was ++ decided_bytes d →
         opened ≡ record { tid = None; to = Some from } → out ≡ mid ++ error_bytes reply → Written tid was out opened
     write_refused tid was mid out d reply opened is back asks sent opened_is ok = search rules
-
-    -- nothing has changed
-    pub write_kept : table ≡ held → after ≡ before_write none → after_write table ≡ before_write held
-    write_kept back kept = rw (config_kept, store_kept ∙ ap (λ (s : ServerState S F D). s.store) kept, back) refl

@@ -2,7 +2,7 @@
 -- ShortageLemmas.
 use Rattle.std.proofs.Common.{◌≡◌, ◌↔◌, ℕ, Bool, true, false, List, Option, Some, Result, Ok, Err, refl, sym, ap, ◌∙◌}
 use Rattle.std.proofs.Common.{rules}
-use Rattle.std.specs.Prelude.{IfOk, IsErrOf}
+use Rattle.std.specs.Prelude.{IsErrOf}
 use Rattle.std.proofs.lemmas.Map.Steps.{set_value_same}
 use Rattle.std.proofs.lemmas.Result.{err_from_is_err_and}
 use Rattle.std.specs.Result.{IsErrAnd}
@@ -16,8 +16,7 @@ use Rattle.tftp_ends.specs.declared.fault.EndFault.{EndFault}
 use Rattle.tftp_ends.specs.declared.fault.EndFault.TheVariants as ends
 use Rattle.tftp_ends.specs.declared.record.Step.{Step}
 use Rattle.tftp_ends.specs.declared.action.Action.{Action}
-use Rattle.tftp_ends.specs.Action.{Decodes, HandledBy, datagram_action, timeout_action}
-use Rattle.tftp_ends.specs.Room.{FitsRoom}
+use Rattle.tftp_ends.specs.Action.{Decodes, datagram_action, timeout_action}
 use Rattle.tftp_ends.specs.End.{EndState}
 use Rattle.tftp_ends.specs.OneFile.{SenderStep, ReceiverStep, sender_step, receiver_step}
 use Rattle.tftp_ends.specs.OtherSinks.{sink_step_as}
@@ -100,13 +99,6 @@ pub handled_alike : {F D : Type 0} (kind : Action → Type 0) (from : Endpoint) 
     (decoded : Option Packet) × Decodes bytes decoded × kind (datagram_action held.end from bytes decoded) →
     (decoded : Option Packet) × Decodes bytes decoded × kind (datagram_action same.end from bytes decoded)
 handled_alike {F = F} {D = D} kind from bytes is h = search rules
-
--- and its answer fits the same capacity
-pub room_alike : {F D R : Type 0} (from : Endpoint) (bytes : List ℕ) {held same : TransferState F D} → held ≡ same →
-    (result : Result R EndFault) (datagram : R → List ℕ) →
-    IfOk result (λ r. HandledBy (FitsRoom held.end (datagram r)) from bytes held.end) →
-    IfOk result (λ r. HandledBy (FitsRoom same.end (datagram r)) from bytes same.end)
-room_alike {F = F} {D = D} from bytes is result datagram h = search rules
 
 -- what the exit of a `?` returns
 pub returned : {T E : Type 0} (r : Result T E) (fault : E) → IsErrAnd r (λ e. e ≡ fault) → r ≡ Err fault
