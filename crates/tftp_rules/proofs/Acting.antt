@@ -1,9 +1,9 @@
 -- Rules that act in sequence at one end, by the view of that end. For Actions and Refines.
 use Rattle.tftp_rules.proofs.Common.{◌≡◌, List, refl, sym, true, [], false, rules, ◌∷◌, arith, ◌∙◌, Bool, ◌++◌, ap}
 use Rattle.tftp_rules.proofs.Common.{subst, std_rules, common_steps, Contains-append_left, Contains, ◌≢◌, Endpoint}
-use Rattle.tftp_rules.proofs.Common.{Network, Message, Machine, Party, Rule, after, Asks, run, Opens_with, Guard}
-use Rattle.tftp_rules.proofs.Common.{IsLegal, Opens_plainly, party_after, actor, MayAct, packets, OpensNoDuplicate}
-use Rattle.tftp_rules.proofs.Common.{ActInTurn, party_then, sent_by, WireRequest}
+use Rattle.tftp_rules.proofs.Common.{Network, Message, Machine, Party, Rule, after, Asks, run, Opens_with, IsLegal}
+use Rattle.tftp_rules.proofs.Common.{Opens_plainly, party_after, actor, MayAct, packets, OpensNoDuplicate, ActInTurn}
+use Rattle.tftp_rules.proofs.Common.{party_then, sent_by, WireRequest}
 use Rattle.tftp_rules.proofs.Grows.{with_at, with_other}
 
 -- what the view of an end does not have
@@ -60,24 +60,21 @@ module _ (network : Network) where
   act_in_turn [] a before m b x o e f t = search std_rules
   act_in_turn (r ∷ rs) a before m b x o e f t =
       let at = actor r in
-      let same : m.party at ≡ m.party a = ap m.party t.0 in
-      let here : m.party at ≡ with_unshown b x = same ∙ e in
-      let open_there : (m.party at).is_open ≡ true = ap (λ (y : Party). y.is_open) same ∙ o in
-      let guard : Guard network r m =
+      let same = ap m.party t.0 in
+      let here = same ∙ e in
+      let open_there = ap (λ (y : Party). y.is_open) same ∙ o in
+      let guard =
       subst (λ (y : Party). MayAct network r m.sent y) (sym here) (may_act_still r before m.sent (with_unshown b x) f
       (may_act b r before x t.1)) in
-      let said : packets network r (m.party at) ≡ packets network r x =
-      ap (packets network r) here ∙ same_packets b r x in
+      let said = ap (packets network r) here ∙ same_packets b r x in
       let next = after network r m in
       let c = same_after b r x in
-      let now : next.party a ≡ party_after r (m.party at) =
-      ap next.party (sym t.0) ∙ with_at m.party at (party_after r (m.party at)) in
-      let moved : next.party a ≡ with_unshown c.0 (party_after r x) = now ∙ (ap (party_after r) here ∙ c.1) in
-      let open_now : (next.party a).is_open ≡ true =
-      ap (λ (y : Party). y.is_open) now ∙ still_open r m.sent (m.party at) open_there guard in
-      let sent : next.sent ≡ m.sent ++ packets network r x = ap (λ (ds : List Message). m.sent ++ ds) said in
-      let rest = act_in_turn rs a before next c.0 (party_after r x) open_now moved (λ d i. Contains-append_left
-      m.sent (packets network r (m.party at)) d (f d i)) t.2 in
+      let now = ap next.party (sym t.0) ∙ with_at m.party at (party_after r (m.party at)) in
+      let moved = now ∙ (ap (party_after r) here ∙ c.1) in
+      let open_now = ap (λ (y : Party). y.is_open) now ∙ still_open r m.sent (m.party at) open_there guard in
+      let sent = ap (λ (ds : List Message). m.sent ++ ds) said in
+      let rest = act_in_turn rs a before next c.0 (party_after r x) open_now moved (λ d i. Contains-append_left m.sent
+      (packets network r (m.party at)) d (f d i)) t.2 in
       let w = rest.1 in grind (arith, common_steps, opens_none, with_other)
 
   -- rules that act in sequence at an open end leave it open

@@ -1,5 +1,6 @@
 -- Each act of an end, each opening and each datagram is shown. For six other files and the crates tftp_player and
 -- tftp_promises.
+use Rattle.std.proofs.Common.{rules as std_rules}
 use Rattle.tftp_rules.proofs.Common.{◌≡◌, List, refl, sym, true, [], false, ℕ, rules, ◌∷◌, arith, ◌∙◌, Some, Bool, ◌++◌}
 use Rattle.tftp_rules.proofs.Common.{length, ◌+◌, ◌≤◌, inl, inr, set, true≢false, Contains, if◌then◌else◌, nat_lt}
 use Rattle.tftp_rules.proofs.Common.{DEFAULT_BLOCK, block, Fits, IsPrefixOf, Endpoint, Network, Message, Party}
@@ -205,9 +206,7 @@ module _ (network : Network) (first : List Rule) (views : List EndView) (message
       IsShownWithin network 3 first (views ++ view_of (actor r) asked (party_after r nobody) ∷ [])
       (messages ++ packets network r nobody)
   opens asked r o may new none opened =
-      let x = party_after r nobody in
-      one_more _ _ (shown_opens network first views messages (view_of (actor r) asked x) r h o may refl new
-      (match_self (actor r) asked x opened) none)
+      search (std_rules, party_after, nobody, one_more, shown_opens, actor, match_self)
 
   -- a client opens; a reader has no text
   pub asks : (a : Endpoint) (write : Bool) (request : WireRequest) (text : List ℕ) → network.host_of a ≡ At_client →

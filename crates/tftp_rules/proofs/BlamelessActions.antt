@@ -1,5 +1,6 @@
 -- No action on a datagram blames a peer that is no stranger, which sent what is true.
 -- For the laws on blame of worlds (tftp_player) and of programs (tftp_promises).
+use Rattle.std.proofs.Common.{rules as std_rules}
 use Rattle.tftp_rules.proofs.Common.{◌≡◌, List, refl, sym, true, [], false, ℕ, arith, ◌∙◌, Some, Bool, ◌++◌, ap, subst}
 use Rattle.tftp_rules.proofs.Common.{length, ◌+◌, ◌<◌, ◌≤◌, None, inr, ◌*◌, Option, Ok, not, Result, Err, take}
 use Rattle.tftp_rules.proofs.Common.{std_rules, true≢false, eqb-true, ltb-false, Contains, ◌≢◌, if◌then◌else◌, nat_lt}
@@ -112,10 +113,7 @@ module _ (network : Network) (Blames : Endpoint → Outcome → Type 0) (calm : 
   port_only = search (std_rules, run_goes, start_goes)
 
   no_request : Ours → (write : Bool) (r : _) → decoded ≡ Some (requested write r) → ⊥
-  no_request own true r is = not_port (port_only (message from x.address (said (Write r))) (told own
-      (Write r) is) own tt)
-  no_request own false r is = not_port (port_only (message from x.address (said (Read r))) (told own
-      (Read r) is) own tt)
+  no_request own write r is = search (std_rules, port_only, message, said, told)
 
   fit_peer : Ours → (n : ℕ) (piece : List ℕ) → decoded ≡ Some (Data n piece) →
       Fits (ends from).text (ends from).size
@@ -137,11 +135,10 @@ module _ (network : Network) (Blames : Endpoint → Outcome → Type 0) (calm : 
       Blames_none known (next_action mode held terms number piece)
   next_fine known terms same mode held number piece h =
       either known _ _ _ (λ long. blamed terms same outcomes.Illegal (λ own b.
-      true≢false (sym long ∙ le-ltb terms.size (length piece) (h own).within))) (λ _. either known _ _ _
-      (λ full. blamed terms same outcomes.TooLarge (λ own b.
+      true≢false (sym long ∙ le-ltb terms.size (length piece) (h own).within))) (λ _. either known _ _ _ (λ full. blamed
+      terms same outcomes.TooLarge (λ own b.
       let both = both_true _ _ full in
-      (h own).short (eqb-true number 65535 both.0) (eqb-true (length piece) terms.size both.1)))
-      (λ _. either known _ _ _
+      (h own).short (eqb-true number 65535 both.0) (eqb-true (length piece) terms.size both.1))) (λ _. either _ _ _ _
       (λ _. tt) (λ bad. blamed terms same outcomes.NotNetascii (λ own b. true≢false (sym ((h own).readable b) ∙ bad)))))
 
   -- ---- from the peer of an end that has one
@@ -209,13 +206,12 @@ module _ (network : Network) (Blames : Endpoint → Outcome → Type 0) (calm : 
       can_store : (piece : List ℕ) → decoded ≡ Some (Data (n + 1) piece) → Ours →
           IsStorable IsText x.state.role.mode x.state.position.held_back terms.size (n + 1) piece
       can_store piece is own =
-          let t = truth own (Data (n + 1) piece) is in
+          let t = truth own _ is in
           let q = pair own in
           let mode_is = q.mode ∙ at_x.mode in
-          let sizes =
-          sym (same_size network m holds x.address from (at_x.is_open, t.is_open, peer_x, t.peer)) ∙ size_x in
+          let sizes = sym (same_size _ m holds _ _ (at_x.is_open, t.is_open, peer_x, t.peer)) ∙ size_x in
           let positive = subst (λ (j : ℕ). 0 < j) size_x (holds.ends x.address at_x.is_open).positive in
-          let fits = subst (λ (j : ℕ). Fits (ends from).text j) sizes (fit_peer own (n + 1) piece is) in
+          let fits = subst (λ (j : ℕ). Fits (ends from).text j) sizes (fit_peer own _ _ is) in
           let has = (holds.ends x.address at_x.is_open).received (at_x.sender ∙ receives) from peer_x own in
           let not_done = at_x.complete ∙ ap is_complete phase in
           let stored = wire_text x.state.role.mode x.stored in
@@ -226,9 +222,9 @@ module _ (network : Network) (Blames : Endpoint → Outcome → Type 0) (calm : 
           let room =
           subst (λ (j : ℕ). n * j ≤ length (ends from).text) size_x (subst (λ (j : ℕ). j * (ends x.address).size ≤
           length (ends from).text) number_x (has.room not_done)) in
-          storable IsText x.state.role.mode x.stored x.state.position.held_back (ends from).text terms.size n piece
-          positive fits (λ b. readable own b t.is_open t.sender mode_is) received room (t.bytes ∙ ap (λ (j : ℕ). block
-          (ends from).text j (n + 1)) sizes)
+          storable IsText x.state.role.mode x.stored x.state.position.held_back (ends from).text _ n piece positive fits
+          (λ b. readable own b t.is_open t.sender mode_is) received room (t.bytes ∙ ap (λ (j : ℕ). block (ends
+          from).text j (n + 1)) sizes)
 
       receiver_fine : (d : Option Packet) → decoded ≡ d →
           Blames_none (Some terms)
@@ -296,18 +292,16 @@ module _ (network : Network) (Blames : Endpoint → Outcome → Type 0) (calm : 
         says (Data 1 piece) is) tt in
         let server = server_end network m holds from t.is_open here in
         let q = peer_is network ends from (ends from) (holds.ends from t.is_open) x.address t.peer own_x in
-        let mode_is : (ends from).mode ≡ x.state.role.mode = sym q.mode ∙ at_x.mode in
-        let nobody : (ends x.address).peer ≡ None = at_x.peer ∙ ap (option_map (λ (t : Terms). t.peer)) none_yet in
+        let mode_is = sym q.mode ∙ at_x.mode in
+        let nobody = at_x.peer ∙ ap (option_map (λ (t : Terms). t.peer)) none_yet in
         let is_plain = plain_answer network m holds x.address from own_x nobody here (Data 1 piece) t tt in
         let small : (ends from).size ≡ DEFAULT_BLOCK = (holds.ends from t.is_open).plain server is_plain.1 in
-        let fits : Fits (ends from).text DEFAULT_BLOCK =
-        subst (λ (j : ℕ). Fits (ends from).text j) small (fit_peer own 1 piece is) in
+        let fits = subst (λ (j : ℕ). Fits (ends from).text j) small (fit_peer own 1 piece is) in
         let empty = (holds.ends x.address at_x.is_open).no_peer nobody in
         let stored = wire_text x.state.role.mode x.stored in
         let mine : (ends x.address).text ≡ stored ++ x.state.position.held_back = search std_rules in
-        let held : x.state.position.held_back ≡ [] = kept_now.4 receives in
-        let received : stored ++ [] ≡ take (0 * DEFAULT_BLOCK) (ends from).text =
-        sym (ap (λ (h : List ℕ). stored ++ h) held) ∙ (sym mine ∙ empty.2 (at_x.sender ∙ receives)) in
+        let held = kept_now.4 receives in
+        let received = sym (ap (λ (h : List ℕ). stored ++ h) held) ∙ (sym mine ∙ empty.2 (at_x.sender ∙ receives)) in
         storable IsText x.state.role.mode x.stored [] (ends from).text DEFAULT_BLOCK 0 piece (omega arith) fits (λ b.
         readable own b t.is_open t.sender mode_is) received (omega arith) (t.bytes ∙ ap (λ (j : ℕ). block (ends
         from).text j 1) small)
@@ -360,8 +354,6 @@ module _ (network : Network) (Blames : Endpoint → Outcome → Type 0) (calm : 
   -- the action on a datagram blames no peer that is no stranger
   pub datagram_fine : Blames_none (terms_of now) (datagram_action x.state from bytes decoded)
   datagram_fine =
-      either (terms_of now) (is_wrong_peer (terms_of now) x.state.position.last_sent_to from) _ _
-      (λ wrong. either (terms_of now) (has_error_opcode bytes) _ _ (λ _. tt) (λ _. tt))
-      (λ right. either (terms_of now) (has_error_opcode bytes && is_none decoded) _ _
-      (λ g. garbled_fine now refl right (both_true (has_error_opcode bytes) (is_none decoded) g).1)
-      (λ _. packet_fine now refl right))
+      either _ _ _ _ (λ wrong. either (terms_of now) (has_error_opcode bytes) _ _ (λ _. tt) (λ _. tt)) (λ right. either
+      (terms_of now) (has_error_opcode bytes && is_none decoded) _ _ (λ g. garbled_fine now refl right (both_true
+      (has_error_opcode bytes) (is_none decoded) g).1) (λ _. packet_fine now refl right))

@@ -73,14 +73,12 @@ module _ {network : Network} {first : List Rule} {views : List EndView} {message
   -- nothing changes
   pub ignores : (from : Endpoint) → Responding network first views messages k x Ignore from
   ignores from =
-      let kept = h.kept in
       let shown_now = goes h.stands [] (omega arith) (open_live _ h.still) tt in
       search rules
 
   -- an ERROR is sent to a wrong peer
   pub answers_wrong_peer : (from : Endpoint) → Responding network first views messages k x WrongPeer from
   answers_wrong_peer from =
-      let kept = h.kept in
       let says = error_says UnknownTransferId x.address from in
       let shown_now =
       goes h.stands (Says_error x.address from ∷ []) (omega arith) (open_live _ h.still) (refl, tt, tt) in
@@ -90,17 +88,18 @@ module _ {network : Network} {first : List Rule} {views : List EndView} {message
   pub answers_again : (from : Endpoint) → from ≡ x.state.position.last_sent_to →
       Responding network first views messages k x ResendReply from
   answers_again from same =
-      let kept = h.kept in
       let old : IsThere messages x.address from x.state.position.last_sent = rw same h.last_sent in
       let shown_now =
-      goes h.stands (Repeats (message x.address from (said old.0)) ∷ []) (omega arith) (open_live _ h.still)
-      (refl, old.2, tt) in
+      goes h.stands (Repeats (message x.address from (said old.0)) ∷ []) (omega arith) (open_live _ h.still) (
+        refl,
+        old.2,
+        tt,
+      ) in
       search rules
 
   -- a timeout: the last datagram is retransmitted, for one retry
   pub retries : (from : Endpoint) → Responding network first views messages k x Retransmit from
   retries from =
-      let kept = h.kept in
       let old = h.last_sent in
       let shown_now =
       goes h.stands (Repeats (message x.address x.state.position.last_sent_to (said old.0)) ∷ []) (omega arith)
@@ -126,7 +125,6 @@ module _ {network : Network} {first : List Rule} {views : List EndView} {message
   pub gives_up : (outcome : Outcome) (from : Endpoint) → goes_on x.state.position.phase ≡ true →
       Responding network first views messages k x (Close outcome) from
   gives_up outcome from going =
-      let kept = h.kept in
       let live = going_live x.state.position.phase going in
       let shown_now = closes h.stands text_left (refl, live.0, live.1) left_first left_sent in
       search rules

@@ -1,9 +1,9 @@
 -- A request opens an end of the server in any network, with its first datagram. For `a_request_opens_an_end` and the
 -- crates tftp_player and tftp_promises.
-use Rattle.tftp_rules.proofs.Common.{◌≡◌, refl, true, [], false, rules, ◌∷◌, arith, ◌++◌, ◌<◌, ◌≤◌, ◌*◌, ◌^◌, Mode}
-use Rattle.tftp_rules.proofs.Common.{Octet, Netascii, Oack, size, agreed_options, DEFAULT_BLOCK, block, block_count}
-use Rattle.tftp_rules.proofs.Common.{wire_text, HeldBackFits, Network, Opens_with, Opens_plainly}
-use Rattle.tftp_rules.specs.EndOpens.{ReadsOpen, WritesOpen, new_receiver, new_sender}
+use Rattle.tftp_rules.proofs.Common.{◌≡◌, refl, true, [], false, rules, ◌∷◌, arith, ◌++◌, ◌<◌, ◌≤◌, ◌^◌, Mode, Octet}
+use Rattle.tftp_rules.proofs.Common.{Netascii, Oack, size, agreed_options, DEFAULT_BLOCK, block, block_count, wire_text}
+use Rattle.tftp_rules.proofs.Common.{HeldBackFits, Network, Opens_with, Opens_plainly}
+use Rattle.tftp_rules.specs.EndOpens.{ReadsOpen, WritesOpen, new_receiver}
 use Rattle.tftp_rules.proofs.Actions.{opens}
 use Rattle.tftp_rules.proofs.SaidLemmas.{own_oack}
 use Rattle.tftp_rules.proofs.SourceMoves.{valid_data}
@@ -26,22 +26,29 @@ module _ (network : Network) where
       let one : 1 ≤ block_count text DEFAULT_BLOCK = omega arith in
       record {
         packet = Data 1 (block text DEFAULT_BLOCK 1);
-        valid = valid_data text DEFAULT_BLOCK 0 (omega arith) (omega arith) fits one;
+        valid = valid_data text _ 0 (omega arith) (omega arith) fits one;
         last_sent = refl;
         last_sent_to = refl;
         kept = search rules;
         side = refl;
-        shown = opens network first views messages shown bytes (Opens_plainly a from false request text) tt
-            (refl, place, come.sent, fits) new (come.spells, come.unanswered) refl;
+        shown = opens network first views messages shown bytes (Opens_plainly a from false request text) tt (
+          refl,
+          place,
+          come.sent,
+          fits,
+        ) new (come.spells, come.unanswered) refl;
       }
   opens_to_send first views messages a from bytes request path file text (k ∷ others) retries shown place new come
       granted fits =
       let agreed = k ∷ others in
-      let x = new_sender a bytes agreed from request.mode path file text retries in
       let now =
-      opens network first views messages shown bytes (Opens_with a from false request text (size agreed)) tt
-      (refl, place, come.sent, fits, granted.positive) new (come.spells, come.unanswered) refl in
-      let none : 0 * size agreed ≡ 0 = omega arith in
+      opens network first views messages shown bytes (Opens_with a from false request text (size agreed)) tt (
+        refl,
+        place,
+        come.sent,
+        fits,
+        granted.positive,
+      ) new (come.spells, come.unanswered) refl in
       record {
         packet = Oack (agreed_options agreed);
         valid = granted.oack (λ e. cc);

@@ -93,9 +93,8 @@ module _ (network : Network) where
   -- the step of an open end for a datagram is shown
   pub datagram_goes : DatagramTurnsAreShown network
   datagram_goes first views messages k x from bytes turn held open_now come serves h =
-      let spelled = says_spelled bytes h.decoded h.says in
-      by_datagram first views messages k x from bytes h.decoded spelled (λ p e. come p (spelled p e))
-      x.state.position.phase open_now serves turn held h.acts
+      let spelled = says_spelled _ _ h.says in
+      by_datagram first views _ k x _ _ _ spelled (λ p e. come p (spelled p e)) _ open_now serves turn held h.acts
 
   -- and for a timeout
   pub timeout_goes : TimeoutTurnsAreShown network

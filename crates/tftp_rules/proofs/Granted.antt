@@ -40,13 +40,11 @@ pub answer_granted : AnswersAreGranted
 answer_granted options kind mode file_length limits agreed fits max e =
     let agreement = answers_may_be_agreed options kind mode file_length limits agreed max e in
     let range = agreements_have_block_sizes agreed agreement in
-    let low = range.0 in
     let words =
     have_words options kind file_length limits fits max agreed (answers_within_request options kind mode file_length
     limits agreed e) in
     let spelled = known_are_options agreed words in
     let three = agreements_are_short agreed agreement in
-    let l = spelled.1 in
     grind (arith, common_steps)
 
 -- its block size does not depend on the length of the file

@@ -1,9 +1,10 @@
 -- Each rule of the machine preserves the invariant: a client's request, the opening of a server's end, a client that
 -- accepts its peer, a receiver that stores a block, a sender that sends the next one, an end that fails. For five other
 -- files.
+use Rattle.std.proofs.Common.{rules as std_rules}
 use Rattle.tftp_rules.proofs.Common.{◌≡◌, List, refl, sym, true, [], false, ℕ, rules, arith, ◌∙◌, Some, Bool, ◌++◌}
-use Rattle.tftp_rules.proofs.Common.{length, ◌+◌, ◌<◌, inl, None, inr, ◌*◌, take, true≢false, cases_Bool, ltb-true}
-use Rattle.tftp_rules.proofs.Common.{ltb-false, Contains, ◌≢◌, if◌then◌else◌, nat_lt, DEFAULT_BLOCK, block, block_count}
+use Rattle.tftp_rules.proofs.Common.{length, ◌+◌, ◌<◌, inl, inr, ◌*◌, take, true≢false, cases_Bool, ltb-true, ltb-false}
+use Rattle.tftp_rules.proofs.Common.{Contains, ◌≢◌, if◌then◌else◌, nat_lt, DEFAULT_BLOCK, block, block_count}
 use Rattle.tftp_rules.proofs.Common.{IsPrefixOf, Holds, Attests, HasReceived, IsSoundParty, Endpoint, Network, Message}
 use Rattle.tftp_rules.proofs.Common.{Machine, Party, Elsewhere, Data, Ack, At_server, Request, Rule, message, after}
 use Rattle.tftp_rules.proofs.Common.{Asks, Opens_with, Guard, Opens_plainly, Takes_oack, Appends, Sends_next, Completes}
@@ -12,7 +13,6 @@ use Rattle.tftp_rules.proofs.Common.{opened, taken, HasAccepted, Waits, IsNext, 
 use Rattle.tftp_rules.proofs.Common.{WireRequest}
 use Rattle.tftp_rules.proofs.Steps.{own_server, own_of, server_end, not-not, received_nothing, one_sent, same_size}
 use Rattle.tftp_rules.proofs.Steps.{moved, of_peer, IsSound-moves, GoesOn, next_block}
-use Rattle.tftp_rules.specs.Facts.{HasAsked}
 use Rattle.tftp_rules.proofs.Grows.{Grows, AllGrow, AllGrow-with, kept, attested_at, attested_one, attested_none}
 use Rattle.tftp_rules.proofs.Grows.{HasReceived-grows, IsSound-grows}
 use Rattle.tftp_rules.proofs.Blocks.{prefix_by_take, take-block, last_block, full_block, count_is_past}
@@ -67,10 +67,6 @@ module _ {network : Network} {m : Machine} (h : Holds network m) {new : Endpoint
       IsSoundParty network new at (opened plain peer write request text size number)
   opens at peer write plain request text size number server come positive small begins empty =
       let x = opened plain peer write request text size number in
-      let asked : network.host_of peer ≢ Elsewhere → HasAsked x (new peer) = λ own.
-      let t = h.attested (message peer network.request_port (Request write request)) come own in
-      let g = all.grows peer t.is_open in
-      search (rules, not-not) in
       let nothing : write ≡ true → (p : Endpoint) → HasReceived x (new p) =
       λ w p. received_nothing x (new p) (empty w).0 (empty w).1 refl in
       search (rules, not-not, of_peer)
@@ -83,8 +79,6 @@ module _ {network : Network} {m : Machine} (h : Holds network m) {new : Endpoint
       let x = accepting (m.party at) peer size number failed in
       let s = h.ends at w.0.0 in
       let y = h.ends peer q.0 in
-      let asked = y.asked q.1 at q.2 (own_of network m h at w.0.0) in
-      let g = all.grows peer q.0 in
       let none = s.no_peer w.2 in
       let nothing : x.sender ≡ false → (p : Endpoint) → HasReceived x (new p) =
       λ z p. received_nothing x (new p) (none.2 z) (begins z) none.1 in
@@ -99,16 +93,12 @@ module _ {network : Network} {m : Machine} (h : Holds network m) {new : Endpoint
       let old = m.party at in
       let x = moved old number complete failed text in
       let said = h.attested (message peer at (Data (old.number + 1) bytes)) g.3 in
-      IsSound-moves network new at old number complete failed text
-      (IsSound-grows network m.party new all at old (h.ends at g.0.0))
-      (λ e. absurd (let k : Some peer ≡ None = sym g.2 ∙ e in cc))
-      (λ c s b n p e o. absurd (true≢false (sym s ∙ g.1)))
-      (λ s. of_peer network (λ (q : Endpoint). HasReceived x (new q)) old peer g.2 (λ own. let t = said own in
-      HasReceived-grows x (m.party peer) (new peer) (all.grows peer t.is_open) t.sender
-      (f (m.party peer) (next_block network m h at peer bytes g own))))
-      (λ d. of_peer network (λ (q : Endpoint). (new q).peer ≡ Some at) old peer g.2 (λ own. let t = said own in
-      (all.grows peer t.is_open).peer at t.peer))
-      (λ s d p e o. absurd (true≢false (sym s ∙ g.1)))
+      IsSound-moves network new at old number complete failed text (IsSound-grows network _ _ all at old (h.ends at
+      g.0.0)) (λ e. absurd (cc)) (λ c s b n p e o. absurd (true≢false (sym s ∙ g.1))) (λ s. of_peer network (λ q.
+      HasReceived x (new q)) old peer g.2 (λ own. let t = said own in
+      HasReceived-grows x _ _ (all.grows peer t.is_open) t.sender (f (m.party peer) (next_block _ m h at peer bytes g
+      own)))) (λ d. of_peer network (λ q. (new q).peer ≡ Some at) old peer g.2 (λ own. let t = said own in
+      (all.grows peer t.is_open).peer at t.peer)) (λ s d p e o. absurd (true≢false (sym s ∙ g.1)))
 
   -- a sender with its newest block acknowledged moves so
   sends : (at peer : Endpoint) → IsAcked m.sent (m.party at) at peer → (number : ℕ) (complete : Bool) →
@@ -161,10 +151,13 @@ module _ (network : Network) where
   now_sound (Asks at write request text) m h g all o = search (rules, true≢false)
   now_sound (Opens_plainly at peer write request text) m h g all o =
       opens h all at peer write true request text DEFAULT_BLOCK _ g.1 g.2 (omega arith) (λ _. refl) (λ e. cc)
-      (opens_empty write text DEFAULT_BLOCK g.3)
+      (opens_empty _ _ _ g.3)
   now_sound (Opens_with at peer write request text size) m h g all o =
-      opens h all at peer write false request text size 0 g.1 g.2 g.4 (λ e. cc) (λ _. refl)
-      (λ w. ((opens_empty write text size g.3 w).0, refl))
+      opens h all at peer write false request text size 0 g.1 g.2 g.4 (λ e. cc) (λ _. refl) (λ w. (
+        (opens_empty _ _ _
+            g.3 w).0,
+        refl,
+      ))
   now_sound (Takes_oack at peer size) m h g all o =
       takes h all at peer size _ _ g.0 (λ z. rw z refl) (serves m h at peer size g.0.3 (inl g.1))
   now_sound (Takes_ack at peer) m h g all o =
@@ -173,24 +166,17 @@ module _ (network : Network) where
       let t = h.attested (message peer at (Data 1 bytes)) g.2 (own_server network peer g.0.3) in
       let c = server_end network m h peer t.is_open g.0.3 in
       let s = h.ends peer t.is_open in
-      let small : (m.party peer).size ≡ DEFAULT_BLOCK = elim (cases_Bool (m.party peer).plain) [
-        | inl p ↦ s.plain c p
-        | inr p ↦
-            absurd (let k : Some peer ≡ None = sym
-            (s.begun c t.sender p t.number at t.peer (own_of network m h at g.0.0.0)) ∙ g.0.2 in cc)
-      ] in
+      let small : (m.party peer).size ≡ DEFAULT_BLOCK = search std_rules in
       takes h all at peer DEFAULT_BLOCK _ _ g.0 (λ z. rw z refl) (t.is_open, c, t.peer, small)
   now_sound (Fails_to_begin at peer size) m h g all o =
       takes h all at peer size _ true g.0 (λ z. absurd (true≢false (sym g.1 ∙ z))) (serves m h at peer size g.0.3 g.2)
-  now_sound (Appends at peer bytes) m h g all o =
-      receives h all at peer bytes g _ _ _ _ (λ z q. received_more (m.party at) z bytes q)
+  now_sound (Appends at peer bytes) m h g all o = receives h all at peer bytes g _ _ _ _ (λ z q. received_more _ z _ q)
   now_sound (Fails_with at peer bytes) m h g all o =
-      receives h all at peer bytes g _ _ true _ (λ z q. received_failed (m.party at) z bytes g.0.1 q)
-  now_sound (Sends_next at peer) m h g all o =
-      sends h all at peer g.0 _ _ (λ d. absurd (true≢false (sym d ∙ g.0.0.1)))
+      receives h all at peer bytes g _ _ true _ (λ z q. received_failed _ z _ g.0.1 q)
+  now_sound (Sends_next at peer) m h g all o = sends h all at peer g.0 _ _ (λ d. absurd (true≢false (sym d ∙ g.0.0.1)))
   now_sound (Completes at peer) m h g all o = sends h all at peer g.0 _ true (λ _. last_acked m h at peer g.0 g.1)
   now_sound (Fails at) m h g all o = fails h all at g
-  now_sound r m h g all o = IsSound-grows network m.party _ all (actor r) (m.party (actor r)) (h.ends (actor r) o)
+  now_sound r m h g all o = IsSound-grows _ _ _ all _ _ (h.ends (actor r) o)
 
   -- what a rule sends is true of the acting end
   now_attested : (r : Rule) (m : Machine) → Holds network m → Guard network r m → (d : Message) →
@@ -201,5 +187,4 @@ module _ (network : Network) where
   -- a rule whose guard holds keeps the invariant
   pub keeps : (r : Rule) (m : Machine) → Holds network m → Guard network r m → Holds network (after network r m)
   keeps r m h g =
-      kept network m (actor r) (party_after r (m.party (actor r))) (packets network r (m.party (actor r))) h
-      (rule_grows r m h g) (now_sound r m h g (rule_all r m h g)) (now_attested r m h g)
+      search (std_rules, kept, actor, party_after, packets, rule_grows, now_sound, rule_all, now_attested)

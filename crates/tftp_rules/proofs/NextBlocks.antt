@@ -1,6 +1,8 @@
 -- The next block of a text: how long it is, and that it can be read.
 -- For StorableBlocks, and for the laws of worlds (tftp_player).
-use Rattle.tftp_rules.proofs.Common.{◌≡◌, List, refl, sym, true, [], false, ℕ, rules, ◌∷◌, arith, ◌∙◌, Bool, ◌++◌, ap}
+use Rattle.std.proofs.lemmas.Grind.{common_steps as std_common_steps}
+use Rattle.std.proofs.Common.{arith as std_arith}
+use Rattle.tftp_rules.proofs.Common.{◌≡◌, List, refl, sym, true, [], false, ℕ, rules, ◌∷◌, arith, ◌∙◌, Bool, ◌++◌}
 use Rattle.tftp_rules.proofs.Common.{subst, length, ◌+◌, ◌<◌, ◌≤◌, inl, ◌*◌, not, drop, std_rules, common_steps}
 use Rattle.tftp_rules.proofs.Common.{append-nil, nat_lt, ◌&&◌, ◌⊎◌, Mode, Octet, Netascii, block, block_count, Fits}
 use Rattle.tftp_rules.proofs.Common.{wire_text, netascii_text, is_readable, ends_in_cr, begins_front}
@@ -43,8 +45,7 @@ piece_readable Netascii file stored held piece rest last e none =
     let joined : netascii_text stored ++ (t ++ rest) ≡ netascii_text file = grind (arith, common_steps) in
     let more = wire_prefix Netascii stored file (t ++ rest, joined) in
     let whole_is : t ++ rest ≡ netascii_text more.0 =
-    drop_front (netascii_text stored) (t ++ rest) (netascii_text more.0) (joined ∙ (ap netascii_text (sym more.1) ∙
-    wire-append Netascii stored more.0)) in
+    grind (std_arith, std_common_steps, drop_front, netascii_text, wire-append) in
     search (std_rules, readable_by, begins_text, ends_text, append-nil)
 
 -- ---- how long a block is

@@ -1,5 +1,6 @@
 -- How far apart the numbers of an end and of its peer are, in every run of the guarded machine.
 -- For the laws of worlds on recovery and on blame (tftp_player).
+use Rattle.std.proofs.Common.{rules as std_rules}
 use Rattle.tftp_rules.proofs.Common.{◌≡◌, List, refl, sym, true, [], false, ℕ, ◌∷◌, arith, ◌∙◌, Some, Bool, ap, length}
 use Rattle.tftp_rules.proofs.Common.{◌+◌, ◌<◌, ◌≤◌, ◌*◌, not, std_rules, true≢false, ltb-true, cases_eq, ◌≢◌}
 use Rattle.tftp_rules.proofs.Common.{if◌then◌else◌, block, block_count, Holds, IsSoundParty, Endpoint, Network, Machine}
@@ -70,21 +71,16 @@ module _ (network : Network) where
       let said = h.attested (message peer at (Data (old.number + 1) bytes)) g.3 in
       record {
         sends = λ s p e own. absurd (true≢false (sym s ∙ g.1));
-        stores = λ s. of_peer network (λ (q : Endpoint). old.number + 1 ≤ (new q).number) old peer g.2 (λ own.
-            let few = (said own).number in
-            let up = (all.grows peer (said own).is_open).number in
-            omega (arith, few, up));
+        stores = search std_rules;
         whole = λ s d. of_peer network (λ (q : Endpoint). old.number + 1 ≡ block_count (new q).text old.size) old peer
             g.2 (λ own.
             let t = said own in
             let b = next_block _ m h at peer bytes g own in
-            short_is_last _ _ _ b.positive b.room (rw (← b.bytes) (ltb-true (length bytes) old.size d))
-            ∙ ap (λ (z : List ℕ). block_count z old.size) (sym ((all.grows peer t.is_open).text t.sender)));
+            short_is_last _ _ _ b.positive b.room (rw (← b.bytes) (ltb-true (length bytes) old.size d)) ∙ ap (λ (z :
+            List ℕ). block_count z old.size) (sym ((all.grows peer t.is_open).text t.sender)));
       }
-  near_now (Fails_to_begin at peer size) m h n g o =
-      let none = ((h.ends at g.0.0.0).no_peer g.0.2).0 in search (std_rules, near_first)
-  near_now r m h n g o =
-      search (std_rules, near_first, at_most_one, none_unless, one_or_none, near_old, true≢false)
+  near_now (Fails_to_begin at peer size) m h n g o = search (std_rules, near_first)
+  near_now r m h n g o = search (std_rules, near_first, at_most_one, none_unless, one_or_none, near_old, true≢false)
 
   -- each rule keeps the numbers near
   near_keeps : (r : Rule) (m : Machine) → Holds network m → AreNear m.party → Guard network r m →

@@ -2,7 +2,8 @@
 -- and tftp_promises.
 pub use Rattle.std.proofs.lemmas.Bool.{and_parts as both_true}
 pub use Rattle.tftp_ends.proofs.RunMoves.{if_either as if_acts}
-use Rattle.tftp_rules.proofs.Common.{◌≡◌, List, refl, sym, true, ℕ, rules, arith, ◌∙◌, Some, Bool, ap, length, ◌+◌, ◌<◌}
+use Rattle.std.proofs.Common.{rules as std_rules}
+use Rattle.tftp_rules.proofs.Common.{◌≡◌, List, refl, sym, true, ℕ, rules, arith, ◌∙◌, Some, Bool, length, ◌+◌, ◌<◌}
 use Rattle.tftp_rules.proofs.Common.{◌≤◌, Option, eqb-true, ltb-true, ltb-false, Contains, if◌then◌else◌, nat_lt, ◌&&◌}
 use Rattle.tftp_rules.proofs.Common.{◌==◌, ◌/◌, Spells, block_count, Holding, Files, same_address, terms_of}
 use Rattle.tftp_rules.proofs.Common.{receiver_action, next_action, dally_response, sender_action, Turn, Acts}
@@ -74,8 +75,7 @@ module _ {network : Network} {first : List Rule} {views : List EndView} {message
 
     pub refuse_acts : (reply : ErrorReply) (outcome : Outcome) → Acting network first views messages k x from bytes
         (Respond (Refuse (terms_of x.state.position.phase) reply outcome))
-    refuse_acts reply outcome =
-        responds (Refuse (terms_of x.state.position.phase) reply outcome) (refuses_now h reply outcome from going)
+    refuse_acts reply outcome = search (std_rules, responds, terms_of, refuses_now)
 
 module _ {network : Network} {first : List Rule} {views : List EndView} {messages : List Message} {k : ℕ} (x : OpenEnd)
     (terms : Terms) (number : ℕ) (from : Endpoint) (bytes piece : List ℕ) (kept : EndKept network x) where
@@ -117,12 +117,11 @@ module _ {network : Network} {first : List Rule} {views : List EndView} {message
       let here : Contains messages (message from x0.address (Says_ack n)) = rw (← eqb-true acked n e) come in
       if_acts Sends (nat_lt n count) _ _ (λ l.
       let more : n < block_count x0.text terms.size = rw (← measured) (ltb-true n count l) in
-      data_goes terms n from u.sender measured u.left (sends_next x0 terms n h from peer here more)
-      (refuses_now h replies.FileChanged outcomes.SourceFault from refl))
-      (λ l. let least : block_count x0.text terms.size ≤ n = rw (← measured) (ltb-false n count l) in
-      let most = u.so_far in
-      responds h from bytes Complete (ends_whole x0 terms n h from peer here (omega arith))))
-      (λ e. if_acts Sends (nat_lt acked n) _ _ (λ l. ignore_acts h from bytes) (λ l. illegal_sender))
+      data_goes terms n from u.sender measured u.left (sends_next x0 terms n h from peer here more) (refuses_now h
+      replies.FileChanged outcomes.SourceFault from refl)) (λ l. let least : block_count x0.text terms.size ≤ n = rw (←
+      measured) (ltb-false n count l) in
+      responds h from bytes Complete (ends_whole x0 terms n h from peer here (omega arith)))) (λ e. if_acts Sends
+      (nat_lt acked n) _ _ (λ l. ignore_acts h from bytes) (λ l. illegal_sender))
 
   -- a sender with any packet
   pub sender_acts : (client : Bool) (decoded : Option WirePacket) → OfDecoded messages from x0 decoded →
@@ -150,8 +149,7 @@ module _ {network : Network} {first : List Rule} {views : List EndView} {message
       let x = with_phase (Receiving terms n) x0 in
       let kept = h.kept in
       next_acts x terms number from bytes piece kept x0.state.position.held_back refl spelled (λ l.
-      let next : IsNext messages (party_of (open_view x)) x0.address from piece =
-      ((refl, refl, refl), kept.phase.0, ap Some peer, (rw (is) at come), l) in
+      let next : IsNext messages (party_of (open_view x)) x0.address from piece = search std_rules in
       record {
         receiver = kept.phase.0;
         going = refl;

@@ -55,9 +55,7 @@ first_after b first later later' plain h e = search std_rules
 first_one : (a : Endpoint) (sent : List Message) (d : Message) (plain : Bool) → opened_as a sent ≡ None → d.from ≡ a →
     opens_as d.packet ≡ Some plain → opened_as a (sent ++ d ∷ []) ≡ Some plain
 first_one a [] d plain none from says = search std_rules
-first_one a (c ∷ cs) d plain none from says =
-    first_after (is_same c.from a) (opens_as c.packet) (opened_as a cs) (opened_as a (cs ++ d ∷ [])) plain
-    (λ rest. first_one a cs d plain rest from says) none
+first_one a (c ∷ cs) d plain none from says = first_after _ _ _ _ _ (λ rest. first_one a cs d plain rest from says) none
 
 module _ (network : Network) where
   -- ---- what is true of its sender is no first datagram of an end that is not open

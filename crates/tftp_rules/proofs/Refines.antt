@@ -1,5 +1,6 @@
 -- What is shown stays shown after a step, an opening or a datagram. For four functions, Actions, ViewSafe and the
 -- crates tftp_player and tftp_promises.
+use Rattle.std.proofs.Common.{rules as std_rules}
 use Rattle.tftp_rules.proofs.Common.{◌≡◌, List, refl, sym, true, [], false, ℕ, rules, ◌∷◌, ◌∙◌, Some, Bool, ◌++◌, ap}
 use Rattle.tftp_rules.proofs.Common.{subst, length, ◌≤◌, inl, inr, set, std_rules, cases_Bool, ◌≢◌, ◌⊎◌, slice_get}
 use Rattle.tftp_rules.proofs.Common.{Spells, Holds, Endpoint, Network, Message, Machine, Party, start, nobody, Rule}
@@ -78,8 +79,7 @@ all_over views messages m s peer write request none a by =
       one_over (inr d) (inr f) = absurd (
           let there = s.only a by.is_open in
           let e = there.1 in
-          let t : Matches e (m.party a) =
-          subst (λ (q : Endpoint). Matches e (m.party q)) there.3 (s.ends there.0 e there.2) in
+          let t : Matches e (m.party a) = search std_rules in
           let busy : IsInService e = (sym t.client ∙ by.server, sym t.complete ∙ d, sym t.failed ∙ f) in
           let says = s.asked there.0 e there.2 (inl busy) in
           let same : answered_by (m.party e.address) ≡ requested write request = search rules in
@@ -193,11 +193,10 @@ module _ (network : Network) where
       let here = slice_get-set_same views k e d at in
       let old = s.ends k e here in
       let matches : Matches (record e { request = [] }) (m.party e.address) = search in
-      let now : Matches f (m.party f.address) =
-      subst (λ (z : EndView). Matches z (m.party z.address)) (sym same) matches in
+      let now : Matches f (m.party f.address) = rw (same) matches in
       let address : f.address ≡ e.address = ap (λ (z : EndView). z.address) same in
       let idle : HasRequest f → ⊥ =
-      subst (λ (z : EndView). HasRequest z → ⊥) (sym same) (λ has. forgotten e has over) in (
+      rw (same) (λ has. forgotten e has over) in (
         shown.0,
         shown.1,
         (
@@ -205,11 +204,10 @@ module _ (network : Network) where
           record {
             sent = s.sent;
             ends = λ j y i. elim (slice_get-set_cases views k j f y i) [
-              | inl b ↦ subst (λ (z : EndView). Matches z (m.party z.address)) (sym b.1) now
+              | inl b ↦ rw (b.1) now
               | inr b ↦ s.ends j y (slice_get-set_other views k j e b.0 ∙ b.1)
             ];
-            apart =
-                search (std_rules, apart_as, set, slice_get-set_cases, slice_get, slice_get-set_other);
+            apart = search (std_rules, apart_as, set, slice_get-set_cases, slice_get, slice_get-set_other);
             asked = λ j y i. elim (slice_get-set_cases views k j f y i) [
               | inl b ↦ λ has. absurd (idle (subst HasRequest b.1 has))
               | inr b ↦ s.asked j y (slice_get-set_other views k j e b.0 ∙ b.1)
@@ -254,8 +252,7 @@ module _ (network : Network) where
         opens_no_duplicate views messages m r f.request s opening asks,
         tt,
       ) (record {
-        sent = ap (λ (ds : List Message). ds ++ packets network r x) s.sent ∙ ap (λ (ds : List Message). messages ++ ds)
-            alike.1;
+        sent = search std_rules;
         ends = λ j y i. (each j y i).0;
         apart = apart_push views f none s.apart;
         asked = λ j y i. (each j y i).1;
@@ -291,8 +288,7 @@ module _ (network : Network) where
         speaks_none r speaking m,
         tt,
       ) (record {
-        sent = ap (λ (ds : List Message). ds ++ packets network r x) s.sent ∙ ap (λ (ds : List Message). messages ++ ds)
-            alike.1;
+        sent = search std_rules;
         ends = λ j y i. (rw ((stays y.address)) (s.ends j y i));
         apart = s.apart;
         asked = λ j y i has. (rw ((stays y.address)) (s.asked j y i has));

@@ -76,11 +76,10 @@ judged_stated one others ks e = search rules
 each_stated : (asked : Asked) (kind : Kind) (mode : Mode) (limit : ℕ) (options : List RawOption) (ks : List Known) →
     each_judged (taken_option asked kind mode limit) options ≡ Ok ks → stated_options options ≡ ks
 unfolding taken_option
-each_stated asked kind mode limit [] ks e = let f : Ok [] ≡ Ok ks = e in cc
+each_stated asked kind mode limit [] ks e = let f = e in cc
 each_stated asked kind mode limit (o ∷ options) ks e =
     let j = judged_stated _ _ _ e in
-    let one : j.0 ≡ stated_as (name_of o.name) (number_of o.value) =
-    taken_stated asked kind mode limit (name_of o.name) (number_of o.value) j.0 j.2 in
+    let one = taken_stated asked kind mode limit (name_of o.name) (number_of o.value) j.0 j.2 in
     let others = each_stated asked kind mode limit options j.1 j.3 in
     search std_rules
 

@@ -1,5 +1,6 @@
 -- A receiver whose sink stores a block or commits. For BlamelessActions, PhaseMoves, WaitingMoves and the crate
 -- tftp_player.
+use Rattle.std.proofs.Common.{rules as std_rules}
 use Rattle.tftp_rules.proofs.Common.{◌≡◌, List, refl, sym, true, [], false, ℕ, rules, ◌∷◌, ◌∙◌, Some, Bool, ◌++◌, ap}
 use Rattle.tftp_rules.proofs.Common.{subst, length, ◌<◌, inl, inr, Ok, not, Result, Err, set, ◌^◌, append_assoc}
 use Rattle.tftp_rules.proofs.Common.{std_rules, true≢false, cases_Bool, append-nil, same_Some, if◌then◌else◌, nat_lt}
@@ -262,8 +263,7 @@ module _ {network : Network} {first : List Rule} {views : List EndView} {message
       let y = end_after x (stored_turn (Dallying terms number Fresh) after) (Sink sink) in
       let none : after ≡ [] = search (std_rules, none_held, is_readable, true) in
       let text : wire_text x.state.role.mode (x.stored ++ more) ++ after ≡ text_of_end y = search rules in
-      stored_goes (Dallying terms number Fresh) sink more after d (acknowledged more after d (text_of_end y) text true
-      last) (r.receiver, r.peer) done
+      search (std_rules, stored_goes, acknowledged, text_of_end, true)
 
   -- after a commit
   commit_goes : Readable x terms piece → (mid sink : Holding) (more after : List ℕ) (turn : Turn) →

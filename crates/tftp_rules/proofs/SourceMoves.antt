@@ -8,9 +8,9 @@ use Rattle.tftp_rules.proofs.Common.{Holding, SinkMeaning, SourceMeaning, Files,
 use Rattle.tftp_rules.proofs.Common.{Turn, SendsFrom, block_length, sent_turn, refused_turn, after_turn}
 use Rattle.tftp_rules.proofs.Common.{result_count_is, data_bytes, Complete, Sending, Terms, EndKept, Goes, IsOpenAt}
 use Rattle.tftp_rules.proofs.Common.{known_source, known_sink, Endpoint, Network, Message, Says_ack, OpenEnd, open_view}
-use Rattle.tftp_rules.proofs.Common.{files_of, in_state, end_after, with_phase, text_of_end, holding_of, received_text}
-use Rattle.tftp_rules.proofs.Common.{Rule, message, IsAcked, said, EndView, party_of}
-use Rattle.std.proofs.Common.{◌-◌}
+use Rattle.tftp_rules.proofs.Common.{files_of, in_state, end_after, with_phase, text_of_end, holding_of, Rule, message}
+use Rattle.tftp_rules.proofs.Common.{IsAcked, said, EndView, party_of}
+use Rattle.std.proofs.Common.{◌-◌, rules as std_rules}
 use Rattle.std.proofs.lemmas.List.{drop_min, drop-drop}
 use Rattle.tftp_wire.specs.declared.packet.Packet.TheVariants.{Data}
 use Rattle.tftp_file.specs.declared.fault.FileFault.{FileFault}
@@ -37,9 +37,6 @@ requested_end : (terms : Terms) (n : ℕ) (e : EndState) (text left : List ℕ) 
     left ≡ drop (n * terms.size) text →
     block_length e.role.length terms.size (n + 1) ≡ min terms.size (length left)
 requested_end terms n e text left measured remaining_is = search (rules, length-drop, back)
-
-whole_count : (size l : ℕ) → min (min size l) l ≡ min size l
-whole_count size l = omega arith
 
 left_next : (text left : List ℕ) (size n : ℕ) → left ≡ drop (n * size) text →
     drop size left ≡ drop ((n + 1) * size) text
@@ -80,8 +77,7 @@ block_sent sources known terms n from e text left turn left' measured remaining_
       by_answer (Err file_faults.Memory) f r m a = absurd (m refl)
       by_answer (Ok k) f r m a =
           let want = requested_end terms n e text left measured remaining_is in
-          let count : k ≡ min terms.size (length left) =
-          f.count ∙ (ap (λ (w : ℕ). min w (length left)) want ∙ whole_count terms.size (length left)) in
+          let count : k ≡ min terms.size (length left) = search std_rules in
           let turns =
           filled terms (n + 1) from h.piece e (Ok k) (counted (block_length e.role.length terms.size (n + 1)) k
           (count ∙ sym want)) in
@@ -193,8 +189,7 @@ module _ {network : Network} where
         let text = x.text in
         let l : n + 1 ≤ block_count text terms.size = omega arith in
         let packet = Data (n + 1) (block text terms.size (n + 1)) in
-        let shown_now = sends h.stands from
-        (acks, subst (λ (t : List ℕ). n < block_count t terms.size) (sym text_is) more) in
+        let shown_now = sends h.stands from (acks, rw (text_is) more) in
         record {
           said_now = message x.address from (said packet) ∷ [];
           shown = search (rules, text_is);
@@ -210,10 +205,6 @@ module _ {network : Network} where
         Responding network first views messages k x Complete from
     ends_whole last =
         let kept = h.kept in
-        let shown_now = completes h.stands from
-        (acks, subst (λ (t : List ℕ). n ≡ block_count t terms.size) (sym text_is) last) in
+        let shown_now = completes h.stands from (acks, rw (text_is) last) in
         let y = responded x Complete from in
-        let still =
-        text_is ∙ sym (text_if (is_sender x0.state.role.side) x.text (received_text y.state y.stored)
-        h.kept.phase.sender) in
         search rules

@@ -1,8 +1,9 @@
 -- The next block of a text is stored: it is short enough, not the last but one, and readable.
 -- For BlamelessActions, EndTurns and the crate tftp_player.
-use Rattle.tftp_rules.proofs.Common.{◌≡◌, List, true, false, ℕ, rules, arith, ◌∙◌, Some, ◌++◌, ap, length, ◌+◌, ◌<◌}
-use Rattle.tftp_rules.proofs.Common.{◌≤◌, ◌*◌, drop, take, std_rules, take-append-drop, nat_lt, Mode, block}
-use Rattle.tftp_rules.proofs.Common.{block_count, Fits, wire_text, is_wrong_peer, is_readable, Terms, Endpoint}
+use Rattle.std.proofs.Common.{rules as std_rules}
+use Rattle.tftp_rules.proofs.Common.{◌≡◌, List, true, false, ℕ, rules, arith, Some, ◌++◌, length, ◌+◌, ◌<◌, ◌≤◌, ◌*◌}
+use Rattle.tftp_rules.proofs.Common.{drop, take, std_rules, take-append-drop, nat_lt, Mode, block, block_count, Fits}
+use Rattle.tftp_rules.proofs.Common.{wire_text, is_wrong_peer, is_readable, Terms, Endpoint}
 use Rattle.tftp_rules.proofs.Blocks.{take-block}
 use Rattle.tftp_rules.proofs.NextBlocks.{piece_readable, block_within, never_long, last_rest}
 
@@ -27,6 +28,5 @@ storable IsText mode stored held text size n piece positive fits file received r
     let own = block text size (n + 1) in
     let rest = drop ((n + 1) * size) text in
     let whole : ((wire_text mode stored ++ held) ++ own) ++ rest ≡ text =
-    ap (λ (t : List ℕ). (t ++ own) ++ rest) received ∙ (ap (λ (t : List ℕ). t ++ rest) (take-block text n size) ∙
-    take-append-drop ((n + 1) * size) text) in
+    search (std_rules, take-block, take-append-drop) in
     search (rules, block_within, never_long, piece_readable, last_rest)

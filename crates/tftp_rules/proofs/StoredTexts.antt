@@ -1,7 +1,7 @@
 -- The wire text of what a receiver has stored, after more was stored. For NextBlocks, SinkMoves and the crate
 -- tftp_player.
-use Rattle.tftp_rules.proofs.Common.{◌≡◌, List, ℕ, arith, ◌∙◌, ◌++◌, ap, append_assoc, common_steps, Mode, IsPrefixOf}
-use Rattle.tftp_rules.proofs.Common.{wire_text}
+use Rattle.std.proofs.Common.{rules}
+use Rattle.tftp_rules.proofs.Common.{◌≡◌, List, ℕ, arith, ◌++◌, append_assoc, common_steps, Mode, IsPrefixOf, wire_text}
 use Rattle.tftp_file.proofs.PrefixLemmas.{wire_begins}
 
 -- a block continues with what is stored of it and the text that is held back then
@@ -12,6 +12,4 @@ stored_more mode stored held bytes more after e = grind (arith, common_steps)
 -- a prefix of what was to be stored is a prefix on the wire
 pub stored_some : (mode : Mode) (stored kept more : List ℕ) → IsPrefixOf kept more →
     IsPrefixOf (wire_text mode (stored ++ kept)) (wire_text mode (stored ++ more))
-stored_some mode stored kept more b =
-    wire_begins mode (stored ++ kept) (stored ++ more)
-    (b.0, append_assoc stored kept b.0 ∙ ap (λ (zs : List ℕ). stored ++ zs) b.1)
+stored_some mode stored kept more b = search (rules, wire_begins, append_assoc)

@@ -2,12 +2,12 @@
 -- For the law on blame of programs (tftp_promises).
 use Rattle.tftp_rules.proofs.Common.{◌≡◌, List, refl, sym, true, false, ℕ, ◌∙◌, Some, ◌++◌, ap, subst, None, Option}
 use Rattle.tftp_rules.proofs.Common.{std_rules, true≢false, same_Some, Contains, ◌≢◌, slice_get, option_map, ⊤, Spells}
-use Rattle.tftp_rules.proofs.Common.{Mode, Asked, wire_text, Holding, Files, is_wrong_peer, Decodes, same_address}
-use Rattle.tftp_rules.proofs.Common.{is_sender, EndState, terms_of, outcome_of, is_client, Turn, timeout_turn}
-use Rattle.tftp_rules.proofs.Common.{after_turn, DatagramStep, default_terms, Outcome, Phase, Waiting, Terms, EndKept}
-use Rattle.tftp_rules.proofs.Common.{IsFromServer, IsAnswer, IsThere, Holds, Attests, known_source, known_sink}
-use Rattle.tftp_rules.proofs.Common.{Endpoint, Network, Message, Machine, Party, Elsewhere, start, OpenEnd, open_view}
-use Rattle.tftp_rules.proofs.Common.{files_of, Rule, message, run, said, EndView, Matches, IsShownAt, one_meaning}
+use Rattle.tftp_rules.proofs.Common.{Mode, wire_text, Holding, Files, is_wrong_peer, Decodes, same_address, is_sender}
+use Rattle.tftp_rules.proofs.Common.{EndState, terms_of, outcome_of, is_client, Turn, timeout_turn, after_turn}
+use Rattle.tftp_rules.proofs.Common.{DatagramStep, default_terms, Outcome, Terms, EndKept, IsFromServer, IsAnswer}
+use Rattle.tftp_rules.proofs.Common.{IsThere, Holds, known_source, known_sink, Endpoint, Network, Message, Machine}
+use Rattle.tftp_rules.proofs.Common.{Party, Elsewhere, start, OpenEnd, open_view, files_of, Rule, message, run, said}
+use Rattle.tftp_rules.proofs.Common.{EndView, Matches, IsShownAt, one_meaning}
 use Rattle.tftp_wire.specs.declared.packet.Packet.{Packet}
 use Rattle.tftp_ends.specs.declared.role.Role.{Role}
 use Rattle.tftp_rules.proofs.ActionCases.{IsPlainAnswer}
@@ -66,11 +66,6 @@ module _ (network : Network) {IsText : Endpoint → Mode → Type 0} where
       IsUnblamed network IsText messages (after_turn e (timeout_turn e))
   timeout_unblamed messages e h = search std_rules
 
--- an open end without terms waits
-waits : (phase : Phase) → outcome_of phase ≡ None → terms_of phase ≡ None →
-    (asked : Asked) × (limit : ℕ) × (phase ≡ Waiting asked limit)
-waits phase still none = search std_rules
-
 plain_is_answer : (p : Packet) → IsPlainAnswer (Some p) → IsAnswer p
 plain_is_answer p h = search std_rules
 
@@ -118,20 +113,17 @@ module _ (network : Network) (IsText : Endpoint → Mode → Type 0) (rules : Li
         is_wrong_peer (terms_of x.state.position.phase) x.state.position.last_sent_to from ≡ false →
         terms_of x.state.position.phase ≡ None → IsPlainAnswer (Some p) → opened_as from messages ≡ Some true
     takes_plain p spells right none plain =
-        let phase = waits x.state.position.phase still none in
         let near : same_address network.request_port from ≡ true = search std_rules in
         let here = serves (ap (option_map (λ (t : Terms). t.peer)) none) near p spells (plain_is_answer p plain) in
-        let own : network.host_of from ≢ Elsewhere = own_server network from here in
+        let own = own_server network from here in
         let sent = arrives own in
-        let truth : Attests (ends from) x.address (said p) =
-        holds.attested (message from x.address (said p)) (subst (λ (ms : List Message). Contains ms (message from
-        x.address (said p))) (sym shown.1.sent) (subst (λ (q : Packet). Contains messages (message from x.address (said
+        let truth =
+        holds.attested (message from x.address (said p)) (rw (shown.1.sent) (subst (λ (q : Packet). Contains messages
+        (message from x.address (said
         q))) (one_meaning sent.0 p bytes sent.1 spells) sent.2)) own in
-        let nobody : (ends x.address).peer ≡ None = at_x.peer ∙ ap (option_map (λ (t : Terms). t.peer)) none in
-        let is_plain =
-        plain_answer network m holds x.address from (own_of network m holds x.address at_x.is_open) nobody here p truth
-        plain in
-        opened from is_plain.0 (server_end network m holds from is_plain.0 here) ∙ ap Some is_plain.1
+        let nobody = at_x.peer ∙ ap (option_map (λ (t : Terms). t.peer)) none in
+        let is_plain = plain_answer _ m holds _ _ (own_of _ m holds _ at_x.is_open) nobody here p truth plain in
+        opened from is_plain.0 (server_end _ m holds _ is_plain.0 here) ∙ ap Some is_plain.1
 
     takes : (decoded : Option Packet) → Decodes bytes decoded →
         is_wrong_peer (terms_of x.state.position.phase) x.state.position.last_sent_to from ≡ false →

@@ -99,7 +99,6 @@ module _ (network : Network) where
       PeersAtHome network views messages
   shown_at_home views messages shown home x p i e =
       let by = shown_by network views messages shown in
-      let m = by.0 in
       let s = by.3 in
       let a = s.ends i.0 x i.1 in
       search rules

@@ -1,16 +1,17 @@
 -- A waiting client with its first answer. For EndTurns and the crate tftp_player.
+use Rattle.std.proofs.Common.{rules as std_rules}
 use Rattle.tftp_rules.proofs.Common.{◌≡◌, List, refl, sym, true, [], false, ℕ, rules, ◌∷◌, arith, ◌∙◌, Some, ◌++◌, ap}
 use Rattle.tftp_rules.proofs.Common.{subst, length, ◌<◌, ◌≤◌, inl, None, inr, ◌*◌, Option, Ok, drop, Result, Err}
 use Rattle.tftp_rules.proofs.Common.{append_assoc, std_rules, true≢false, eqb-true, ltb-true, Contains, AllByRecursion}
 use Rattle.tftp_rules.proofs.Common.{nat_lt, ◌&&◌, ◌==◌, Spells, canonical, MAX_BLOCK, RawOption, Oack, Read, Write}
 use Rattle.tftp_rules.proofs.Common.{size, IsAgreeable, agreement, Asked, Kind, Known, DEFAULT_BLOCK, Refusal, block}
-use Rattle.tftp_rules.proofs.Common.{block_count, Fits, wire_text, is_sender, receiver_action, after_turn}
-use Rattle.tftp_rules.proofs.Common.{default_terms, reader_action, writer_action, accept_action, refusal_action}
-use Rattle.tftp_rules.proofs.Common.{agreed_terms, begin_action, begin_with_action, Action, Respond, Refuse, Accept}
-use Rattle.tftp_rules.proofs.Common.{ErrorReply, Outcome, Waiting, Terms, IsAnswer, Goes, IsOpenAt, Endpoint, Network}
-use Rattle.tftp_rules.proofs.Common.{Message, At_server, Says_ack, Says_data, OpenEnd, open_view, in_state, with_phase}
-use Rattle.tftp_rules.proofs.Common.{text_of_end, received_text, Rule, message, HasAccepted, Waits, said, oack_size}
-use Rattle.tftp_rules.proofs.Common.{EndView, party_of, WirePacket, Replies}
+use Rattle.tftp_rules.proofs.Common.{block_count, wire_text, is_sender, receiver_action, after_turn, default_terms}
+use Rattle.tftp_rules.proofs.Common.{reader_action, writer_action, accept_action, refusal_action, agreed_terms}
+use Rattle.tftp_rules.proofs.Common.{begin_action, begin_with_action, Action, Respond, Refuse, Accept, ErrorReply}
+use Rattle.tftp_rules.proofs.Common.{Outcome, Waiting, Terms, IsAnswer, Goes, IsOpenAt, Endpoint, Network, Message}
+use Rattle.tftp_rules.proofs.Common.{At_server, Says_ack, Says_data, OpenEnd, open_view, in_state, with_phase}
+use Rattle.tftp_rules.proofs.Common.{received_text, Rule, message, HasAccepted, Waits, said, oack_size, EndView}
+use Rattle.tftp_rules.proofs.Common.{party_of, WirePacket, Replies}
 use Rattle.std.specs.Prelude.{nat_le}
 use Rattle.std.proofs.lemmas.Bool.{leb-true}
 use Rattle.tftp_wire.specs.declared.packet.Packet.TheVariants.{Data, Ack, Error}
@@ -70,8 +71,7 @@ module _ {network : Network} {first : List Rule} {views : List EndView} {message
         agreement asked kind x0.state.role.mode options limit ≡ Ok known →
         Contains messages (message from x0.address (Says_oack (oack_size options))) →
         Contains messages (message from x0.address (Says_oack (size known)))
-    agreed_came kind options known e come =
-        subst (λ (n : ℕ). Contains messages (message from x0.address (Says_oack n))) (taken_oack _ _ _ _ _ _ e) come
+    agreed_came kind options known e come = search (std_rules, message, taken_oack)
 
     module _ (reader : is_sender x0.state.role.side ≡ false) where
       -- a reader handles an OACK
@@ -80,13 +80,10 @@ module _ {network : Network} {first : List Rule} {views : List EndView} {message
           (r : Result (List Known) Refusal) → agreement asked kinds.Read x0.state.role.mode options limit ≡ r →
           Answers (accept_action from r)
       accept_acts options come (Ok known) e =
-          let kept = h.kept in
-          let here = agreed_came kinds.Read options known e come in
-          let shown_now =
-          accepts h.stands from (size known) (waits, here, λ w. absurd (true≢false (sym w ∙ reader))) reader in
-          let says : Replies x0.address (Some (record { to = from; bytes = canonical (Ack 0) }))
-          (message x0.address from
-          (Says_ack 0) ∷ []) = (Ack 0, spells_own (Ack 0) (omega arith), refl) in
+          let here = agreed_came _ _ _ e come in
+          let shown_now = accepts h.stands _ _ (waits, here, λ w. absurd (true≢false (sym w ∙ reader))) reader in
+          let says : Replies x0.address (Some (record { to = from; bytes = canonical (Ack 0) })) (message x0.address
+          from (Says_ack 0) ∷ []) = (Ack 0, spells_own _ (omega arith), refl) in
           responds h from bytes (Accept (agreed_terms from known)) (search rules)
       accept_acts options come (Err refusal) e = refusal_acts refusal
 
@@ -127,14 +124,12 @@ module _ {network : Network} {first : List Rule} {views : List EndView} {message
           if_acts Answers (nat_lt x0.state.role.length (65535 * terms.size)) _ _ (λ e.
           let kept = h.kept in
           let text = x0.text in
-          let measured : x0.state.role.length ≡ length text = kept.phase.5 writer in
-          let fits : Fits text terms.size =
+          let measured = kept.phase.5 writer in
+          let fits =
           subst (λ (n : ℕ). n < 65535 * terms.size) measured (ltb-true x0.state.role.length (65535 * terms.size) e) in
-          let text_is : text_of_end waiter ≡ text =
-          text_if (is_sender x0.state.role.side) text (received_text waiter.state waiter.stored) writer in
+          let text_is = text_if (is_sender x0.state.role.side) text (received_text waiter.state waiter.stored) writer in
           let zero_blocks : 0 * terms.size ≡ 0 = omega arith in
-          let remaining_is : x0.left ≡ drop (0 * terms.size) text =
-          kept.phase.3 ∙ ap (λ (n : ℕ). drop n text) (sym zero_blocks) in
+          let remaining_is = kept.phase.3 ∙ ap (λ (n : ℕ). drop n text) (sym zero_blocks) in
           let l : 1 ≤ block_count text terms.size = omega arith in
           let packet = Data 1 (block text terms.size 1) in
           let shown = sends_first h.stands from terms.size waits writer accepted in
@@ -149,7 +144,7 @@ module _ {network : Network} {first : List Rule} {views : List EndView} {message
             stored = λ _. refl;
           } in
           let y = in_state (after_turn waiter.state (failed_turn terms from waiter)) waiter in
-          let still : text_of_end waiter ≡ text_of_end y =
+          let still =
           text_is ∙ sym (text_if (is_sender x0.state.role.side) text (received_text y.state y.stored) writer) in
           let failing = refuses_to_begin h.stands from terms.size (waits, writer, accepted) in
           let failed : Goes network first views messages k waiter (failed_turn terms from waiter) y = record {
@@ -161,8 +156,8 @@ module _ {network : Network} {first : List Rule} {views : List EndView} {message
             last_sent = inl (refl, refl);
             stored = λ _. refl;
           } in
-          data_goes terms 0 from writer measured remaining_is goes_now failed)
-          (λ e. refuse_waiter replies.FileTooLarge outcomes.TooLarge)
+          data_goes terms 0 from writer measured remaining_is goes_now failed) (λ e. refuse_waiter replies.FileTooLarge
+          outcomes.TooLarge)
 
       begin_with : (options : List RawOption) →
           Contains messages (message from x0.address (Says_oack (oack_size options))) →
