@@ -1,12 +1,13 @@
 -- Which servers were started, and that each was ended.
+use Rattle.std.proofs.lemmas.Grind.{common_steps}
 use Rattle.std.proofs.Common.{◌≡◌, ◌≢◌, ◌∙◌, ◌<◌, ◌≤◌, ◌+◌, ◌==◌, ℕ, Bool, true, false, List, [], ◌∷◌, ◌++◌, length, map, take, drop}
-use Rattle.std.proofs.Common.{arith, refl, sym, ap, subst}
+use Rattle.std.proofs.Common.{arith, refl, sym, ap, subst, rules}
 use Rattle.std.specs.Prelude.{Contains, Err, Ok, OnOk, Result, Some, pos, slice_index_or}
 use Rattle.std.specs.Process.{exit_code}
 use Rattle.std.specs.declared.io.Error.{Error}
 use Rattle.std.specs.declared.process.status.ExitStatus.{ExitStatus}
 use Rattle.std.proofs.lemmas.Bool.{eqb-true, eq-eqb}
-use Rattle.std.proofs.lemmas.List.{length-map, map-append, take_all, take_more, take-append-drop}
+use Rattle.std.proofs.lemmas.List.{length-map, map-append, take_all, take-append-drop}
 use Rattle.tftp_supervisor.specs.ProcessEvent.{AllSucceeded, EachEnded, ProcessEvent, StartsFirst, WasEnded}
 use Rattle.tftp_supervisor.specs.ProcessEvent.{started_in}
 use Rattle.tftp_supervisor.specs.ProcessEvent.ProcessEvent.{Started, Closed, Ended}
@@ -21,21 +22,17 @@ pub one_more : {X : Type 0} (f : X → List (List ℕ)) (xs : List X) (index : �
     (before after : List ProcessEvent) → index < length xs → x ≡ slice_index_or xs index x → line ≡ f x
     → started_in before ≡ map f (take index xs) → after ≡ Started line ∷ before
     → started_in after ≡ map f (take (index + 1) xs)
-one_more f xs index x line before after below is same were noted =
-    ap started_in noted ∙ ap (λ (lines : List (List (List ℕ))). lines ++ line ∷ []) were
-    ∙ ap (λ (l : List (List ℕ)). map f (take index xs) ++ l ∷ []) (same ∙ ap f is)
-    ∙ sym (map-append f (take index xs) (slice_index_or xs index x ∷ []))
-    ∙ ap (map f) (sym (take_more xs index x below))
+one_more f xs index x line before after below is same were noted = grind (arith, common_steps)
 
 -- they are the first
 pub are_first : {X : Type 0} (f : X → List (List ℕ)) (xs : List X) (index : ℕ) (events : List ProcessEvent)
     → started_in events ≡ map f (take index xs) → StartsFirst (map f xs) events
-are_first f xs index events were = record {
-  rest = map f (drop index xs);
-  is =
-      ap (map f) (sym (take-append-drop index xs)) ∙ map-append f (take index xs) (drop index xs)
-      ∙ ap (λ (lines : List (List (List ℕ))). lines ++ map f (drop index xs)) (sym were);
-}
+are_first f xs index events were =
+    search (
+      map f (drop index xs),
+      ap (map f) (sym (take-append-drop index xs)) ∙ map-append f (take index xs) (drop index xs) ∙ ap (λ (lines : List
+          (List (List ℕ))). lines ++ map f (drop index xs)) (sym were),
+    )
 
 -- they are all
 pub are_all : {X : Type 0} (f : X → List (List ℕ)) (xs : List X) (index : ℕ) (events : List ProcessEvent)
@@ -44,23 +41,16 @@ are_all f xs index events over were = were ∙ ap (map f) (take_all index xs ove
 
 pub first_of_none : (lines : List (List (List ℕ))) (events : List ProcessEvent) → events ≡ []
     → StartsFirst lines events
-first_of_none lines events none = record {
-  rest = lines;
-  is = ap (λ (started : List ProcessEvent). started_in started ++ lines) (sym none);
-}
+first_of_none lines events none = search (ap (λ (started : List ProcessEvent). started_in started ++ lines) (sym none))
 
 pub first_of_same : (lines : List (List (List ℕ))) (before after : List ProcessEvent) → StartsFirst lines before
     → started_in after ≡ started_in before → StartsFirst lines after
-first_of_same lines before after first same = record {
-  rest = first.rest;
-  is = first.is ∙ ap (λ (started : List (List (List ℕ))). started ++ first.rest) (sym same);
-}
+first_of_same lines before after first same = search rules
 
 -- ---- going on
 pub goes_on_ended : (before middle after : List ProcessEvent) (server : ℕ) (answer : Result ExitStatus Error)
     → GoesOn before middle → after ≡ Ended server answer ∷ middle → GoesOn before after
-goes_on_ended before middle after server answer goes noted =
-    subst (GoesOn before) (sym noted) (record { always = goes.always; started = goes.started })
+goes_on_ended before middle after server answer goes noted = search rules
 
 -- ---- ending
 pub ended_more : (count server : ℕ) (answer : Result ExitStatus Error) (before after : List ProcessEvent)
@@ -70,29 +60,20 @@ ended_more count server answer before after is were noted k below = by (k == cou
   where
     by : (b : Bool) → (k == count) ≡ b → WasEnded (k + 1) after
     by true same =
-        let last : server ≡ k + 1 = is ∙ ap (λ (n : ℕ). n + 1) (sym (eqb-true k count same)) in
+        let last = is ∙ ap (λ (n : ℕ). n + 1) (sym (eqb-true k count same)) in
         subst (λ (n : ℕ). WasEnded n after) last
-        (record {
-          answer = answer;
-          ended =
-              subst (λ (events : List ProcessEvent). Contains events (Ended server answer)) (sym noted)
-              (newest (Ended server answer) before);
-        })
+        (search (subst (λ (events : List ProcessEvent). Contains events (Ended server answer)) (sym noted) (newest
+        (Ended server answer) before)))
     by false other =
         let apart : k ≢ count = λ e. let yes = eq-eqb k count e in cc in
-        let was : WasEnded (k + 1) before = were k (omega (arith, below, apart)) in
-        record {
-          answer = was.answer;
-          ended =
-              subst (λ (events : List ProcessEvent). Contains events (Ended (k + 1) was.answer)) (sym noted)
-              (earlier (Ended (k + 1) was.answer) (Ended server answer) before was.ended);
-        }
+        let was = were k (omega (arith, below, apart)) in
+        search (subst (λ (events : List ProcessEvent). Contains events (Ended (k + 1) was.answer)) (sym noted) (earlier
+        (Ended (k + 1) was.answer) (Ended server answer) before was.ended))
 
 pub ended_well : {X : Type 0} (f : X → List (List ℕ)) (xs : List X) (events : List ProcessEvent)
     → AllSucceeded (length xs) events → started_in events ≡ map f xs → EachEnded events
 ended_well f xs events all started k below =
-    let same : length (started_in events) ≡ length xs =
-    ap (λ (lines : List (List (List ℕ))). length lines) started ∙ length-map xs f in
+    let same = ap (λ (lines : List (List (List ℕ))). length lines) started ∙ length-map xs f in
     let one = all k (omega (arith, same, below)) in record { answer = Ok one.status; ended = one.ended }
 
 -- a server closed its output, and its end was looked at

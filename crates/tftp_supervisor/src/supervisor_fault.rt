@@ -1,6 +1,7 @@
 //! Why a supervisor ended.
 
-ghost use Rattle.std.specs.Prelude.{◌≡◌};
+ghost use Rattle.std.specs.Prelude.{◌≡◌, ◌≢◌};
+ghost use Rattle.std.specs.IoError.{error_kind};
 ghost use Rattle.tftp_supervisor.specs.declared.supervisor_fault.SupervisorFault.TheVariants as faults;
 
 use std::alloc::AllocError;
@@ -24,7 +25,11 @@ pub enum SupervisorFault {
 
 impl SupervisorFault {
     /// The fault of a system that does not say which file the program is.
-    pub(crate) fn of_program(error: io::Error) -> SupervisorFault {
+    pub(crate) fn of_program(error: io::Error) -> SupervisorFault
+        ensures memory { error_kind error ≡ ErrorKind.OutOfMemory → result ≡ faults.Memory }
+        ensures program { error_kind error ≢ ErrorKind.OutOfMemory
+            → result ≡ faults.Program error }
+    {
         if error.kind() == ErrorKind::OutOfMemory {
             return SupervisorFault::Memory;
         }
@@ -32,7 +37,11 @@ impl SupervisorFault {
     }
 
     /// The fault of a call that the system refused.
-    pub(crate) fn of(error: io::Error) -> SupervisorFault {
+    pub(crate) fn of(error: io::Error) -> SupervisorFault
+        ensures memory { error_kind error ≡ ErrorKind.OutOfMemory → result ≡ faults.Memory }
+        ensures system { error_kind error ≢ ErrorKind.OutOfMemory
+            → result ≡ faults.System error }
+    {
         if error.kind() == ErrorKind::OutOfMemory {
             return SupervisorFault::Memory;
         }

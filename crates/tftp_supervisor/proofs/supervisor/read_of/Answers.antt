@@ -1,15 +1,11 @@
 -- The output gave bytes, which were passed on, or it is closed.
-use Rattle.std.proofs.Common.{refl}
+use Rattle.std.proofs.Common.{refl, rules}
 use Rattle.tftp_supervisor.specs.Watching.ReadsOutput.{Given}
-use Rattle.tftp_supervisor.specs.Output.{lines_in}
 use Rattle.tftp_supervisor.proofs.Starting.{finished_so}
 use Rattle.tftp_supervisor.proofs.supervisor.read_of.Goals as goal
 
 pub returns-in_default-clause-ok : goal.returns-in_default-clause-ok
-returns-in_default-clause-ok g c =
-    let closed = rw c.in_default.is at c.in-Ok.ensures.closed in
-    finished_so c.finish.result (lines_in c.args.announced.now.items) c.args.server.now c.finish.new.server _ _ _ c.args.out.now.items
-    c.finish.ensures.ok closed c.finish.ensures.output c.requires.out
+returns-in_default-clause-ok g c = search (rules, finished_so)
 
 pub returns-clause-ok : goal.returns-clause-ok
 returns-clause-ok g c =

@@ -11,19 +11,17 @@ pub returns-clause-watching : goal.returns-clause-watching
 returns-clause-watching g c =
     let within : c.saturating_sub-index.result < length c.args.self.now.servers.items =
     omega (arith, c.in-Some.ensures.variant.0 refl, c.args.self.now.servers.ok.0) in
-    let ends = c.print.ensures
-    ∙ ap (λ (o : List ℕ). after_print o (g.P.ServerProcesses.log c.read_of.new.processes)) c.as_slice.ensures.value in
-    ok_so c.print.result
-    (watched_on _ _ c.args.self.now _ c.saturating_sub-index.result c.in-Some.watched.now c.read_of.new.server
-    (g.P.ServerProcesses.log c.read_of.new.processes) c.read_of.new.out.items c.requires within
-    c.in-Some.ensures.value refl refl c.in_ok-read_of.ensures.ok ends)
+    let ends = c.print.ensures ∙ ap (λ (o : List ℕ). after_print o (g.P.ServerProcesses.log c.read_of.new.processes))
+    c.as_slice.ensures.value in
+    ok_so c.print.result (watched_on _ _ _ _ _ _ _ _ _ c.requires within c.in-Some.ensures.value refl refl
+    c.in_ok-read_of.ensures.ok ends)
 
 pub returns-clause-goes_on : goal.returns-clause-goes_on
 returns-clause-goes_on g c =
     let within : c.saturating_sub-index.result < length c.args.self.now.servers.items =
     omega (arith, c.in-Some.ensures.variant.0 refl, c.args.self.now.servers.ok.0) in
-    let ends = c.print.ensures
-    ∙ ap (λ (o : List ℕ). after_print o (g.P.ServerProcesses.log c.read_of.new.processes)) c.as_slice.ensures.value in
+    let ends = c.print.ensures ∙ ap (λ (o : List ℕ). after_print o (g.P.ServerProcesses.log c.read_of.new.processes))
+    c.as_slice.ensures.value in
     let new : Supervisor = record {
       alloc = c.args.self.now.alloc;
       servers = with_item c.args.self.now.servers c.saturating_sub-index.result c.read_of.new.server;
@@ -32,7 +30,5 @@ returns-clause-goes_on g c =
       out = c.read_of.new.out;
     } in
     let watching : IsWatching (g.P.ServerProcesses.log c.print.new.processes) new =
-    watched_on _ _ c.args.self.now new c.saturating_sub-index.result c.in-Some.watched.now c.read_of.new.server
-    (g.P.ServerProcesses.log c.read_of.new.processes) c.read_of.new.out.items c.requires within
-    c.in-Some.ensures.value refl refl c.in_ok-read_of.ensures.ok ends in
-    goes_on_print _ _ _ c.read_of.new.out.items new watching c.in_ok-read_of.ensures.goes_on ends
+    watched_on _ _ _ _ _ _ _ _ _ c.requires within c.in-Some.ensures.value refl refl c.in_ok-read_of.ensures.ok ends in
+    goes_on_print _ _ _ _ _ watching c.in_ok-read_of.ensures.goes_on ends
