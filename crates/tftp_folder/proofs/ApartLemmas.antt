@@ -4,7 +4,7 @@ use Rattle.std.proofs.Common.{ap, append_assoc, arith, decimal, inl, inr, length
 use Rattle.std.proofs.lemmas.List.{length-append}
 use Rattle.std.specs.Prelude.{codes}
 use Rattle.std.specs.Fmt.{digits, digits_onto, digit_glyph}
-use Rattle.tftp_folder.specs.Begin.{draft_name, IsDraftOf}
+use Rattle.tftp_folder.specs.Begin.{IsDraftOf}
 use Rattle.tftp_folder.specs.Commit.{lock_of}
 
 abbrev last_of : List ℕ → ℕ → ℕ
@@ -34,8 +34,7 @@ ends_in_digit : (n byte : ℕ) → last_of (decimal n) byte ≡ digit_glyph fals
 unfolding digits
 ends_in_digit n byte =
     let digit = digit_glyph false (n % 10) in
-    either_ends (n / 10 == 0) (digit ∷ []) (digits_onto 63 10 false (n / 10) (digit ∷ [])) byte digit refl
-    (ends_onto 63 (n / 10) digit [] byte)
+    either_ends (n / 10 == 0) _ _ _ _ refl (ends_onto 63 (n / 10) digit [] byte)
 
 low_digit : (n : ℕ) → digit_glyph false (n % 10) ≢ 112
 low_digit n is = grind arith
@@ -43,9 +42,8 @@ low_digit n is = grind arith
 -- what ends in digits is no lock
 ends_apart : (front target : List ℕ) (byte n : ℕ) → front ++ (byte ∷ decimal n) ≢ lock_of target
 ends_apart front target byte n same =
-    let left : last_of (front ++ (byte ∷ decimal n)) 0 ≡ last_of (decimal n) byte =
-    last_append front byte (decimal n) 0 in
-    let right : last_of (lock_of target) 0 ≡ 112 = last_append target 126 (codes "tftp") 0 in
+    let left = last_append front byte (decimal n) 0 in
+    let right = last_append target 126 (codes "tftp") 0 in
     low_digit n (sym (ends_in_digit n byte) ∙ sym left ∙ ap (λ (l : List ℕ). last_of l 0) same ∙ right)
 
 pub draft_apart : (folder target : List ℕ) (port : ℕ) (path : List ℕ) → IsDraftOf folder port path

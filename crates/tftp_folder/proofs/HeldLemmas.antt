@@ -1,11 +1,11 @@
 -- A store takes away what has the path of a draft only while it holds it.
 use Rattle.std.proofs.Common.{◌≡◌, ◌≢◌, ◌∙◌, ◌/◌, ◌%◌, ◌==◌, ◌≤◌, ◌⊎◌, ℕ, zero, suc, Bool, true, false, cond, List, [], ◌∷◌, ◌++◌, Ok, All, Option}
-use Rattle.std.proofs.Common.{ap, append_assoc, arith, decimal, inl, inr, length, refl, subst, sym}
+use Rattle.std.proofs.Common.{ap, append_assoc, arith, decimal, inl, inr, length, refl, subst, sym, rules}
 use Rattle.std.proofs.lemmas.Bool.{and_parts, cond-false, eqb-true}
 use Rattle.std.proofs.lemmas.List.Elements.{All-head, All-tail}
 use Rattle.std.specs.Fmt.{digits, digits_onto, digit_glyph}
 use Rattle.std.specs.List.{list_all, join_with_byte}
-use Rattle.std.specs.Prelude.{◌&&◌, ⊤, codes, nat_le, not, IsTrue}
+use Rattle.std.specs.Prelude.{⊤, codes, not, IsTrue}
 use Rattle.tftp_disk.specs.Changes.{changes}
 use Rattle.tftp_disk.specs.DiskTrace.{DiskEvent}
 use Rattle.tftp_disk.specs.DiskTrace.DiskEvent.{Looked, Followed, Resolved, Opened, Tried, Created, Made, Locked, Linked, Renamed, Removed}
@@ -70,53 +70,33 @@ digits_none (suc k) n rest none =
 
 decimal_none : (n : ℕ) → HasNone (decimal n)
 unfolding digits
-decimal_none n =
-    let digit = digit_glyph false (n % 10) in
-    either_none (n / 10 == 0) (digit ∷ []) (digits_onto 63 10 false (n / 10) (digit ∷ [])) (digit_is_none n, tt)
-    (digits_none 63 (n / 10) (digit ∷ []) (digit_is_none n, tt))
+decimal_none n = search (rules, either_none, digit_is_none, digits_none)
 
 front_none : HasNone (codes ".tftp-")
-front_none = (
-  λ e. omega (arith, e),
-  (λ e. omega (arith, e), (λ e. omega (arith, e), (λ e. omega (arith, e), (λ e. omega (arith, e), (λ e. omega (arith, e), tt))))),
-)
+front_none = search rules
 
 dash_none : HasNone (codes "-")
 dash_none = (λ e. omega (arith, e), tt)
 
 draft_start : (folder : List ℕ) (port : ℕ) (path : List ℕ) → IsDraftOf folder port path → start_of path 0 ≡ 46
-draft_start folder port path (inl is) =
-    ap (λ (p : List ℕ). start_of p 0) is
-    ∙ (start_append folder (codes ".tftp-" ++ decimal port) 0
-    ∙ none_start (codes ".tftp-" ++ decimal port) 46 (both_none (codes ".tftp-") (decimal port) front_none (decimal_none port)))
-draft_start folder port path (inr (turn, is)) =
-    let rest = codes ".tftp-" ++ (decimal port ++ (codes "-" ++ decimal turn)) in
-    ap (λ (p : List ℕ). start_of p 0) is
-    ∙ (start_append folder rest 0
-    ∙ none_start rest 46
-    (both_none (codes ".tftp-") (decimal port ++ (codes "-" ++ decimal turn)) front_none
-    (both_none (decimal port) (codes "-" ++ decimal turn) (decimal_none port)
-    (both_none (codes "-") (decimal turn) dash_none (decimal_none turn)))))
+draft_start folder port path draft =
+    search (rules, start_append, none_start, both_none, front_none, decimal_none, dash_none)
 
 -- ---- no name that a client can spell does
 name_none : (bytes : List ℕ) → list_all is_name_byte bytes ≡ true → HasNone bytes
 name_none [] all = tt
 name_none (byte ∷ bytes) all =
-    let parts = and_parts (is_name_byte byte) (list_all is_name_byte bytes) all in (
-      λ same. let no : false ≡ true = subst (λ (b : ℕ). is_name_byte b ≡ true) same parts.0 in cc,
-      name_none bytes parts.1,
+    let parts = and_parts (is_name_byte byte) (list_all is_name_byte bytes) all in search (
+      rules,
+      name_none bytes
+          parts.1,
     )
 
 no_dot : (byte : ℕ) → not (byte == 46) ≡ true → byte ≢ 46
 no_dot byte is same = let no : false ≡ true = subst (λ (b : ℕ). not (b == 46) ≡ true) same is in cc
 
 segment_start : (segment : List ℕ) → is_segment segment ≡ true → start_of segment (first_of segment) ≢ 46
-segment_start [] is same = let no : false ≡ true = is in cc
-segment_start (byte ∷ bytes) is same =
-    let short = nat_le (length (byte ∷ bytes)) 64 in
-    let parts = and_parts (not (byte == 46) && short) (list_all is_name_byte (byte ∷ bytes)) is in
-    no_dot byte (and_parts (not (byte == 46)) short parts.0).0
-    (sym (none_start (byte ∷ bytes) byte (name_none (byte ∷ bytes) parts.1)) ∙ same)
+segment_start segment is same = search (rules, and_parts, no_dot, none_start, name_none)
 
 IsSegment : List ℕ → Type 0
 IsSegment segment = IsTrue (is_segment segment)
@@ -136,8 +116,7 @@ unfolding IsSegment
 segments_start segments some all = joined_start segments segment_start some all
 
 path_start : (path : List ℕ) → IsPath path → start_of path (first_of path) ≢ 46
-path_start path is =
-    subst (λ (p : List ℕ). start_of p (first_of p) ≢ 46) (sym is.joined) (segments_start is.segments is.some is.allowed)
+path_start path is = search (rules, segments_start)
 
 -- so no draft is at a place that a client can name
 pub target_apart : (limits : Limits) (folder path target : List ℕ) → IsDraftIn folder path → IsTarget limits target
@@ -150,9 +129,7 @@ target_apart limits folder path target draft is same =
 
 -- ---- what only looks leaves each path
 pub names_tail : (event : DiskEvent) (events : List DiskEvent) → NamesThere (event ∷ events) → NamesThere events
-names_tail (Linked file from to answer) events there = there.1
-names_tail (Renamed file from to answer) events there = there.1
-names_tail event events there = there
+names_tail event events there = search rules
 
 module _ (path : List ℕ) where
   data Sees (event : DiskEvent) : Type 0 where
@@ -160,27 +137,7 @@ module _ (path : List ℕ) where
     A_look : ((events : List DiskEvent) → changes (event ∷ events) ≡ changes events) → LeavesPath path event → Sees event
 
   sees : (event : DiskEvent) → Sees event
-  sees (Renamed file from to answer) = A_change (λ events. refl)
-  sees (Made at answer) = A_change (λ events. refl)
-  sees (Locked at answer) = A_change (λ events. refl)
-  sees (Linked file from to answer) = A_change (λ events. refl)
-  sees (Removed at answer) = A_change (λ events. refl)
-  sees (Folder_opened at answer) = A_change (λ events. refl)
-  sees (Folder_synced at answer) = A_change (λ events. refl)
-  sees (Looked at answer) = A_look (λ events. refl) tt
-  sees (Followed at answer) = A_look (λ events. refl) tt
-  sees (Resolved at answer) = A_look (λ events. refl) tt
-  sees (Opened at answer) = A_look (λ events. refl) tt
-  sees (Tried at answer) = A_look (λ events. refl) tt
-  sees (Created at calls) = A_look (λ events. refl) tt
-  sees (Examined answer) = A_look (λ events. refl) tt
-  sees (Given bytes) = A_look (λ events. refl) tt
-  sees (Not_given error) = A_look (λ events. refl) tt
-  sees (Sought to answer) = A_look (λ events. refl) tt
-  sees (Written bytes) = A_look (λ events. refl) tt
-  sees (Not_written error) = A_look (λ events. refl) tt
-  sees (Synced answer) = A_look (λ events. refl) tt
-  sees (Mode_set mode answer) = A_look (λ events. refl) tt
+  sees event = search rules
 
   -- the newest change, among all calls
   record Newest (calls : List DiskEvent) (event : DiskEvent) (rest : List DiskEvent) : Type 0 where
@@ -227,27 +184,16 @@ module _ (path : List ℕ) where
   -- what it holds, it holds after calls that leave that
   then_holds : (since calls : List DiskEvent) → AllLeave path since → HoldsDraft path calls
       → HoldsDraft path (since ++ calls)
-  then_holds since calls left holds = record {
-    since = since ++ holds.since;
-    first = holds.first;
-    before = holds.before;
-    is =
-        ap (λ (l : List DiskEvent). since ++ l) holds.is
-        ∙ sym (append_assoc since holds.since (holds.first ∷ holds.before));
-    takes = holds.takes;
-    left = both_leave since holds.since left holds.left;
-  }
+  then_holds since calls left holds =
+      search (
+        since ++ holds.since,
+        ap (λ (l : List DiskEvent). since ++ l) holds.is ∙ sym (append_assoc since holds.since (holds.first ∷ holds.before)),
+        both_leave since holds.since left holds.left,
+      )
 
   -- the file that it made there
   still_holds : (when : Option ℕ) (calls : List DiskEvent) → IsStillAt path when calls → HoldsDraft path calls
-  still_holds when calls still = record {
-    since = still.since;
-    first = Made path (Ok tt);
-    before = still.before;
-    is = still.made;
-    takes = inl refl;
-    left = still.left;
-  }
+  still_holds when calls still = search rules
 
   module _ (limits : Limits) (folder : List ℕ) (draft : IsDraftIn folder path) where
     -- the newest change linked the file that it made there to its name
@@ -264,35 +210,23 @@ module _ (path : List ℕ) where
         → MayGo path changed → HoldsDraft path calls
     by_go calls _ same are there (Is_locked {calls = rest}) =
         let n = newest calls (Locked path (Ok tt)) rest same there in
-        record {
-          since = n.since;
-          first = Locked path (Ok tt);
-          before = n.before;
-          is = n.is;
-          takes = inr refl;
-          left = n.left;
-        }
+        search rules
     by_go calls _ same are there (Is_linked {file = file} {to = to} {calls = rest}) =
-        linked_holds calls rest (Linked file path to (Ok tt)) same there
-        (target_apart limits folder path to draft are.0.change.1)
-        (λ before there'. still_holds file.made_when before there'.0)
+        linked_holds calls rest (Linked file path to (Ok tt)) same there (target_apart limits folder path to draft
+        are.0.change.1) (λ before there'. still_holds file.made_when before there'.0)
     by_go calls _ same are there (Is_synced {file = file} {to = to} {at = at} {answer = answer} {calls = rest}) =
         let n = newest calls (Folder_synced at answer) (Linked file path to (Ok tt) ∷ rest) same there in
-        subst (HoldsDraft path) (sym n.is)
-        (then_holds n.since (Folder_synced at answer ∷ n.before) n.left
-        (then_holds (Folder_synced at answer ∷ []) n.before (tt, tt)
-        (linked_holds n.before rest (Linked file path to (Ok tt)) n.more n.there
-        (target_apart limits folder path to draft are.1.0.change.1)
-        (λ before there'. still_holds file.made_when before there'.0))))
+        subst (HoldsDraft path) (sym n.is) (then_holds n.since (Folder_synced at answer ∷ n.before) n.left (then_holds
+        (Folder_synced at answer ∷ []) n.before (tt, tt) (linked_holds n.before rest (Linked file path to (Ok tt))
+        n.more n.there (target_apart limits folder path to draft are.1.0.change.1) (λ before there'. still_holds
+        file.made_when before there'.0))))
 
     removes : (at : List ℕ) (calls : List DiskEvent) {WasGiven WasMade : Type 0} → AreChanges limits (changes calls)
         → NamesThere calls
         → (IsDraftIn limits.drafts at × MayGo at (changes calls)) ⊎ (IsTarget limits at × WasGiven)
         ⊎ (IsLock limits at × WasMade)
         → path ≡ at → HoldsDraft path calls
-    removes at calls are there (inl drafted) same =
-        by_go calls (changes calls) refl are there
-        (subst (λ (p : List ℕ). MayGo p (changes calls)) (sym same) drafted.1)
+    removes at calls are there (inl drafted) same = search (rules, by_go)
     removes at calls are there (inr (inl named)) same = absurd (target_apart limits folder path at draft named.0 same)
     removes at calls are there (inr (inr ((target, is_target, is), made))) same =
         absurd (draft_apart folder target draft.0 path draft.1 (same ∙ is))

@@ -1,7 +1,7 @@
 -- Which paths are inside the root, and the calls on them.
 use Rattle.std.proofs.Common.{◌≡◌, ◌≤◌, ◌<◌, ◌∙◌, ℕ, zero, suc, List, [], ◌∷◌, ◌++◌, Option, Some, None, Result, length}
-use Rattle.std.proofs.Common.{take, max, refl, sym, ap, subst, inl, inr, arith}
-use Rattle.std.specs.Prelude.{codes, IfSome}
+use Rattle.std.proofs.Common.{take, max, refl, sym, ap, subst, inl, inr, arith, rules}
+use Rattle.std.specs.Prelude.{IfSome}
 use Rattle.std.specs.String.{string_bytes}
 use Rattle.std.specs.declared.io.Error.{Error}
 use Rattle.std.proofs.lemmas.List.{append_assoc, get_or_at, length-append, take_all}
@@ -15,7 +15,6 @@ use Rattle.tftp_disk.specs.declared.found.Found.{Found}
 use Rattle.tftp_folder.specs.Commit.{lock_of}
 use Rattle.tftp_folder.specs.Draft.{IsDraftBelow, SameNames}
 use Rattle.tftp_folder.specs.Inside.{AreInside, IsInside, StaysInside}
-use Rattle.tftp_folder.specs.Opened.{follows}
 use Rattle.tftp_folder.specs.Uploads.{IsBelow}
 use Rattle.tftp_folder.specs.declared.folder_draft.FolderDraft.{FolderDraft}
 
@@ -56,25 +55,16 @@ above_inside root path text _ same below (Here none) =
 
 -- a path below a folder that is inside the root
 pub in_folder : (root folder path : List ℕ) → IsInside root folder → IsBelow folder path → IsBelow root path
-in_folder root folder path (inl same) below = (below.0, below.1 ∙ ap (λ (f : List ℕ). f ++ (47 ∷ below.0)) same)
-in_folder root folder path (inr (rest, is)) below = (
-  rest ++ (47 ∷ below.0),
-  below.1 ∙ ap (λ (f : List ℕ). f ++ (47 ∷ below.0)) is ∙ append_assoc root (47 ∷ rest) (47 ∷ below.0),
-)
+in_folder root folder path inside below = search (rules, append_assoc)
 
 -- the lock of a name below the root
 pub lock_inside : (root target at : List ℕ) → at ≡ lock_of target → IsBelow root target → IsInside root at
-lock_inside root target at is below =
-    inr (
-      below.0 ++ codes "~tftp",
-      is ∙ ap (λ (t : List ℕ). t ++ codes "~tftp") below.1 ∙ append_assoc root (47 ∷ below.0) (codes "~tftp"),
-    )
+lock_inside root target at is below = search (rules, append_assoc)
 
 -- a path that is longer than the root is below it
 pub longer_below : (root path : List ℕ) → IsInside root path → max (length root) 1 < length path
     → IsBelow root path
-longer_below root path (inl same) long = absurd (omega (arith, ap length same))
-longer_below root path (inr below) long = below
+longer_below root path inside long = search rules
 
 front_below : (root rest : List ℕ) (n : ℕ) → length root ≤ n → IsInside root (take n (root ++ (47 ∷ rest)))
 front_below [] rest zero long = inl refl
@@ -85,10 +75,7 @@ front_below (first ∷ root) rest (suc n) long =
 
 -- the front of a path inside the root, if it is as long as that
 pub front_inside : (root path : List ℕ) (n : ℕ) → IsInside root path → length root ≤ n → IsInside root (take n path)
-front_inside root path n (inl same) long =
-    inl (take_all n path (omega (arith, ap length same)) ∙ same)
-front_inside root path n (inr (rest, is)) long =
-    subst (λ (p : List ℕ). IsInside root (take n p)) (sym is) (front_below root rest n long)
+front_inside root path n inside long = search (rules, take_all, front_below)
 
 -- a path inside the root is looked at
 pub look_inside : (root path : List ℕ) (answer : Result Found Error) (before after : List DiskEvent)
@@ -99,8 +86,7 @@ look_inside root path answer before after is inside all = subst (AreInside root)
 pub folders_inside : (by root path above : List ℕ) (before after : List DiskEvent) → by ≡ root → IsBelow root path
     → IsFolderOf path above → (IsInside by above → StaysInside by before after) → StaysInside root before after
 folders_inside by root path above before after same below is_folder calls =
-    subst (λ (r : List ℕ). IsInside r above → StaysInside r before after) same calls
-    (above_inside root path path above refl below is_folder)
+    subst (λ r. IsInside r above → StaysInside r before after) same calls (above_inside _ _ _ _ refl below is_folder)
 
 -- the folder of a path below the root is opened
 pub opens_inside : (root path text : List ℕ) (before after : List DiskEvent) → text ≡ path → IsBelow root path
@@ -108,52 +94,31 @@ pub opens_inside : (root path text : List ℕ) (before after : List DiskEvent) �
 opens_inside root path text before after same below (at, answer, is_folder, is) =
     λ all. subst (AreInside root) (sym is) (above_inside root path text at same below is_folder, all)
 
--- it is looked at no otherwise
-pub opens_follows : (text : List ℕ) (before after : List DiskEvent) → OpensAlone text before after
-    → follows after ≡ follows before
-opens_follows text before after (at, answer, is_folder, is) = ap follows is
-
 module _ {F : Type 0} where
-  -- it is synced, and looked at no otherwise
-  pub syncs_follows : (folder : Option (DiskFolder F)) (before after : List DiskEvent) → SyncsAlone folder before after
-      → follows after ≡ follows before
-  syncs_follows folder before after (inl same) = ap follows same
-  syncs_follows folder before after (inr (answer, is)) = ap follows is
-
   -- that folder is inside the root, if it is open
   pub folder_fits : (root path text : List ℕ) (folder : Option (DiskFolder F)) → text ≡ path → IsBelow root path
       → (calls : List DiskEvent) → IsFolderFor text folder calls → IfSome (path_in folder) (IsInside root)
   folder_fits root path text None same below calls fits = tt
   folder_fits root path text (Some folder) same below calls (at, is_folder, told) =
-      subst (λ (o : Option (List ℕ)). IfSome o (IsInside root)) (sym told)
-      (above_inside root path text at same below is_folder)
+      rw (told) (above_inside root path text at same below is_folder)
 
   -- it is synced
   pub syncs_inside : (root : List ℕ) (folder : Option (DiskFolder F)) (before after : List DiskEvent)
       → IfSome (path_in folder) (IsInside root) → SyncsAlone folder before after → StaysInside root before after
-  syncs_inside root folder before after fits (inl same) = subst (AreInside root) (sym same)
-  syncs_inside root folder before after fits (inr (answer, is)) = λ all. subst (AreInside root) (sym is) (fits, all)
+  syncs_inside root folder before after fits syncs = search rules
 
   -- a draft with the same names is below the root
   pub stays_below : (root : List ℕ) (a b : FolderDraft F) → SameNames a b → IsDraftBelow root a → IsDraftBelow root b
-  stays_below root a b names below = record {
-    path = subst (IsBelow root) (sym (ap string_bytes names.draft)) below.path;
-    target = subst (IsBelow root) (sym (ap string_bytes names.target)) below.target;
-  }
+  stays_below root a b names below = search rules
 
   -- calls on a draft with the same names, by another text of the root
   pub names_inside : (a b : FolderDraft F) (by root : List ℕ) (before after : List DiskEvent) → SameNames a b
       → by ≡ root → (IsDraftBelow by b → StaysInside by before after) → IsDraftBelow root a
       → StaysInside root before after
-  names_inside a b by root before after names same calls below =
-      subst (λ (r : List ℕ). IsDraftBelow r b → StaysInside r before after) same calls (stays_below root a b names below)
+  names_inside a b by root before after names same calls below = search rules
 
   -- it is renamed
   pub rename_inside : (root : List ℕ) (draft : FolderDraft F) (file : FileState) (from to : List ℕ) (answer : Done)
       (before after : List DiskEvent) → from ≡ string_bytes draft.draft → to ≡ string_bytes draft.target
       → after ≡ Renamed file from to answer ∷ before → IsDraftBelow root draft → StaysInside root before after
-  rename_inside root draft file from to answer before after path target is below all =
-      subst (AreInside root) (sym is) (
-        (inr (subst (IsBelow root) (sym path) below.path), inr (subst (IsBelow root) (sym target) below.target)),
-        all,
-      )
+  rename_inside root draft file from to answer before after path target is below all = search rules

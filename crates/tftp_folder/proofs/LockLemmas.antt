@@ -1,11 +1,12 @@
 -- A store removes no lock that it does not hold.
-use Rattle.std.proofs.Common.{◌≡◌, ◌≢◌, ◌∙◌, ℕ, true, false, List, [], ◌∷◌, ◌++◌, Ok, Err, All}
-use Rattle.std.proofs.Common.{ap, append_assoc, arith, inl, inr, refl, subst, sym}
+use Rattle.std.proofs.lemmas.Grind.{common_steps}
+use Rattle.std.proofs.Common.{◌≡◌, ◌≢◌, ◌∙◌, ℕ, true, List, [], ◌∷◌, ◌++◌, Ok, Err, All, ap, arith, inl, inr, refl}
+use Rattle.std.proofs.Common.{subst, sym, rules}
 use Rattle.std.proofs.lemmas.Bool.{and_parts}
 use Rattle.std.proofs.lemmas.List.{append_cancel_left}
 use Rattle.std.proofs.lemmas.List.Elements.{All-head, All-tail}
 use Rattle.std.specs.List.{list_all, join_with_byte}
-use Rattle.std.specs.Prelude.{◌⊎◌, ◌==◌, ◌&&◌, ⊤, codes, length, nat_le, not, IsTrue}
+use Rattle.std.specs.Prelude.{◌⊎◌, ⊤, IsTrue}
 use Rattle.tftp_disk.specs.Changes.{changes}
 use Rattle.tftp_disk.specs.DiskTrace.{DiskEvent}
 use Rattle.tftp_disk.specs.DiskTrace.DiskEvent.{Looked, Followed, Resolved, Opened, Tried, Created, Made, Locked, Linked, Renamed, Removed}
@@ -16,7 +17,6 @@ use Rattle.tftp_file.specs.Path.{IsPath, is_name_byte, is_segment}
 use Rattle.tftp_folder.specs.Changing.{AreChanges, HoldsLock, IsDraftIn, IsLock, IsTarget, Limits}
 use Rattle.tftp_folder.specs.Commit.{lock_of}
 use Rattle.tftp_folder.specs.Locks.{KeepLock, StoresKeepLocks}
-use Rattle.tftp_folder.specs.Uploads.{path_below}
 use Rattle.tftp_folder.proofs.ApartLemmas.{draft_apart}
 
 -- ---- no path that a client can name has a tilde
@@ -31,17 +31,14 @@ both_none (byte ∷ front) rest one other = (one.0, both_none front rest one.1 o
 name_none : (bytes : List ℕ) → list_all is_name_byte bytes ≡ true → HasNoTilde bytes
 name_none [] all = tt
 name_none (byte ∷ bytes) all =
-    let parts = and_parts (is_name_byte byte) (list_all is_name_byte bytes) all in (
-      λ same. let no : false ≡ true = subst (λ (b : ℕ). is_name_byte b ≡ true) same parts.0 in cc,
-      name_none bytes parts.1,
+    let parts = and_parts (is_name_byte byte) (list_all is_name_byte bytes) all in search (
+      rules,
+      name_none bytes
+          parts.1,
     )
 
 segment_none : (segment : List ℕ) → is_segment segment ≡ true → HasNoTilde segment
-segment_none [] is = tt
-segment_none (byte ∷ bytes) is =
-    let short = nat_le (length (byte ∷ bytes)) 64 in
-    name_none (byte ∷ bytes)
-    (and_parts (not (byte == 46) && short) (list_all is_name_byte (byte ∷ bytes)) is).1
+segment_none segment is = search (rules, name_none, and_parts)
 
 slash_is_none : ◌≢◌ {A = ℕ} 47 126
 slash_is_none same = omega (arith, same)
@@ -78,14 +75,7 @@ lock_has_one (byte ∷ front) rest none = lock_has_one front rest none.1
 target_apart : (limits : Limits) (target other : List ℕ) → IsTarget limits target → IsTarget limits other
     → lock_of target ≢ other
 target_apart limits target other is is_other same =
-    let long : lock_of target ≡ path_below limits.root (is.path ++ codes "~tftp") =
-    ap (λ (t : List ℕ). t ++ codes "~tftp") is.place
-    ∙ append_assoc limits.root (47 ∷ is.path) (codes "~tftp") in
-    let rest : 47 ∷ (is.path ++ codes "~tftp") ≡ 47 ∷ is_other.path =
-    append_cancel_left limits.root (47 ∷ (is.path ++ codes "~tftp")) (47 ∷ is_other.path)
-    (sym long ∙ same ∙ is_other.place) in
-    let path : is.path ++ codes "~tftp" ≡ is_other.path = cc in
-    lock_has_one is.path (codes "tftp") (subst HasNoTilde (sym path) (path_none is_other.path is_other.is_path))
+    grind (arith, common_steps, append_cancel_left, lock_has_one, path_none)
 
 -- ---- what only looks leaves each path
 module _ (lock : List ℕ) where
@@ -95,27 +85,7 @@ module _ (lock : List ℕ) where
         → Sees event
 
   sees : (event : DiskEvent) → Sees event
-  sees (Renamed file from to answer) = A_change (λ events. refl)
-  sees (Made path answer) = A_change (λ events. refl)
-  sees (Locked path answer) = A_change (λ events. refl)
-  sees (Linked file from to answer) = A_change (λ events. refl)
-  sees (Removed path answer) = A_change (λ events. refl)
-  sees (Folder_opened path answer) = A_change (λ events. refl)
-  sees (Folder_synced path answer) = A_change (λ events. refl)
-  sees (Looked path answer) = A_look (λ events. refl) tt
-  sees (Followed path answer) = A_look (λ events. refl) tt
-  sees (Resolved path answer) = A_look (λ events. refl) tt
-  sees (Opened path answer) = A_look (λ events. refl) tt
-  sees (Tried path answer) = A_look (λ events. refl) tt
-  sees (Created path calls) = A_look (λ events. refl) tt
-  sees (Examined answer) = A_look (λ events. refl) tt
-  sees (Given bytes) = A_look (λ events. refl) tt
-  sees (Not_given error) = A_look (λ events. refl) tt
-  sees (Sought to answer) = A_look (λ events. refl) tt
-  sees (Written bytes) = A_look (λ events. refl) tt
-  sees (Not_written error) = A_look (λ events. refl) tt
-  sees (Synced answer) = A_look (λ events. refl) tt
-  sees (Mode_set mode answer) = A_look (λ events. refl) tt
+  sees event = search rules
 
   more : (event : DiskEvent) (calls : List DiskEvent) → LeavesPath lock event → HoldsLock lock calls
       → HoldsLock lock (event ∷ calls)
@@ -135,24 +105,17 @@ module _ (lock : List ℕ) where
       let f : event ∷ changes calls ≡ Made lock (Ok tt) ∷ before = made in
       let is : event ≡ Made lock (Ok tt) = cc in
       record { since = []; before = calls; made = ap (λ (e : DiskEvent). e ∷ calls) is; left = tt }
-  holds_from event calls (one ∷ since) before made left next =
-      let f : event ∷ changes calls ≡ one ∷ (since ++ Made lock (Ok tt) ∷ before) = made in
-      let is : event ≡ one = cc in
-      let rest : changes calls ≡ since ++ Made lock (Ok tt) ∷ before = cc in
-      more event calls (subst (λ (e : DiskEvent). LeavesPath lock e) (sym is) left.0) (next since rest left.1)
+  holds_from event calls (one ∷ since) before made left next = search (rules, more)
 
   -- who holds a lock by the changes, does by all calls
   holds_by : (calls since before : List DiskEvent) → changes calls ≡ since ++ Made lock (Ok tt) ∷ before
       → AllLeave lock since → HoldsLock lock calls
-  holds_by [] [] before made left =
-      absurd (let f : ◌≡◌ {A = List DiskEvent} [] (Made lock (Ok tt) ∷ before) = made in cc)
-  holds_by [] (one ∷ since) before made left =
-      absurd (let f : ◌≡◌ {A = List DiskEvent} [] (one ∷ (since ++ Made lock (Ok tt) ∷ before)) = made in cc)
+  holds_by [] [] before made left = absurd (let f = made in cc)
+  holds_by [] (one ∷ since) before made left = absurd (let f = made in cc)
   holds_by (event ∷ calls) since before made left = elim (sees event) [
     | A_change is ↦
-        holds_from event calls since before (sym (is calls) ∙ made) left
-        (λ rest made' left'. holds_by calls rest before made' left')
-    | A_look is leaves ↦ more event calls leaves (holds_by calls since before (sym (is calls) ∙ made) left)
+        holds_from _ _ _ _ (sym (is calls) ∙ made) left (λ rest made' left'. holds_by _ _ _ made' left')
+    | A_look is leaves ↦ more _ _ leaves (holds_by _ _ _ (sym (is calls) ∙ made) left)
   ]
 
 -- ---- each call of a store
@@ -166,10 +129,7 @@ module _ (limits : Limits) (target : List ℕ) (is : IsTarget limits target) whe
       → lock_of target ≡ path → HoldsLock (lock_of target) calls
   removes path calls (inl drafted) same = absurd (draft_else path drafted.0 same)
   removes path calls (inr (inl named)) same = absurd (target_apart limits target path is named.0 same)
-  removes path calls (inr (inr locked)) same =
-      let holds : HoldsLock (lock_of target) (changes calls) =
-      subst (λ (p : List ℕ). HoldsLock p (changes calls)) (sym same) locked.1 in
-      holds_by (lock_of target) calls holds.since holds.before holds.made holds.left
+  removes path calls (inr (inr locked)) same = search (rules, holds_by)
 
   renames : (from to : List ℕ) (calls : List DiskEvent) → IsDraftIn limits.drafts from → IsTarget limits to
       → (lock_of target ≡ from) ⊎ (lock_of target ≡ to) → HoldsLock (lock_of target) calls

@@ -1,7 +1,7 @@
 -- The calls that make a draft.
-use Rattle.std.proofs.Common.{◌≡◌, ◌≢◌, ◌∙◌, ℕ, Bool, true, false, List, [], ◌∷◌, ◌++◌, Option, Some, Ok, Err, IfOk, OnErr, Result, ap, append_assoc, inl, inr, length, refl, subst, sym}
-use Rattle.std.specs.Prelude.{codes}
-use Rattle.std.specs.Fmt.{decimal}
+use Rattle.std.proofs.lemmas.Grind.{common_steps}
+use Rattle.std.proofs.Common.{◌≡◌, ◌∙◌, ℕ, Bool, true, false, List, [], ◌∷◌, Ok, Err, IfOk, OnErr, Result, ap, inl, inr}
+use Rattle.std.proofs.Common.{refl, subst, sym, arith, rules}
 use Rattle.std.specs.String.{string_bytes}
 use Rattle.std.specs.declared.io.Error.{Error}
 use Rattle.tftp_disk.specs.Changes.{changes}
@@ -12,20 +12,19 @@ use Rattle.tftp_disk.specs.Still.{IsStillAt}
 use Rattle.tftp_disk.specs.declared.disk_file.DiskFile.{DiskFile}
 use Rattle.tftp_disk.specs.declared.disk_writer.DiskWriter.{DiskWriter}
 use Rattle.tftp_disk.specs.declared.found.Found.{Found}
-use Rattle.tftp_folder.specs.Begin.{draft_name, DraftCalls, IsDraftOf, IsMade, IsMadeFor, IsNew, MakesDraft, TriesAt, TriesDraft}
+use Rattle.tftp_folder.specs.Begin.{DraftCalls, IsDraftOf, IsMade, IsMadeFor, IsNew, MakesDraft, TriesAt, TriesDraft}
 use Rattle.tftp_folder.specs.Begin.DraftCalls.{None_yet, Look, Lock, Remove, Make}
 use Rattle.tftp_folder.specs.Begin.TriesDraft.{Nothing, Locks, Removes, Makes}
 use Rattle.tftp_folder.specs.Commit.{lock_of}
 use Rattle.tftp_folder.specs.Draft.{IsThere}
-use Rattle.tftp_folder.specs.Inside.{AreInside, IsInside, StaysInside}
-use Rattle.tftp_folder.specs.Looked.{LooksFor, RemovesIf, RemovesOwn}
+use Rattle.tftp_folder.specs.Inside.{IsInside, StaysInside}
+use Rattle.tftp_folder.specs.Looked.{RemovesIf, RemovesOwn}
 use Rattle.tftp_folder.specs.Opened.{follows}
-use Rattle.tftp_folder.specs.Placed.{placed, LeavesOthers}
+use Rattle.tftp_folder.specs.Placed.{LeavesOthers}
 use Rattle.tftp_folder.specs.Uploads.{IsBelow}
 use Rattle.tftp_folder.specs.declared.folder_draft.FolderDraft.{FolderDraft}
 use Rattle.tftp_folder.proofs.ApartLemmas.{draft_apart}
-use Rattle.tftp_folder.proofs.InsideLemmas.{in_folder}
-use Rattle.tftp_folder.proofs.PlacedLemmas.{leaves_made, leaves_removed, still_by, still_past}
+use Rattle.tftp_folder.proofs.PlacedLemmas.{leaves_made, leaves_removed, still_past}
 
 -- each path of a draft is below the folder
 pub draft_in_folder : (folder : List ℕ) (port : ℕ) (path : List ℕ) → IsDraftOf folder port path → IsBelow folder path
@@ -34,8 +33,7 @@ draft_in_folder folder port path (inr (turn, is)) = (_, is)
 
 draft_inside : (root folder : List ℕ) (port : ℕ) (path : List ℕ) → IsInside root folder → IsDraftOf folder port path
     → IsInside root path
-draft_inside root folder port path inside is =
-    inr (in_folder root folder path inside (draft_in_folder folder port path is))
+draft_inside root folder port path inside is = grind (arith, common_steps)
 
 module _ (folder : List ℕ) (port : ℕ) where
   -- of such calls, those that change something
@@ -105,35 +103,16 @@ module _ (folder : List ℕ) (port : ℕ) where
   pub makes_draft : (path at : List ℕ) (file before looked after : List DiskEvent) → changes looked ≡ changes before
       → at ≡ path → IsMadeFor folder port path file looked after
       → MakesDraft folder port at (changes before) (changes after)
-  makes_draft path at file before looked after same is made = record {
-    own = subst (IsDraftOf folder port) (sym is) made.own;
-    cleared = changes made.cleared;
-    tries =
-        subst (λ (b : List DiskEvent). TriesDraft folder port b (changes made.cleared)) same
-        (tries_by looked made.cleared made.tries);
-    made =
-        ap changes made.new.made
-        ∙ ap (λ (p : List ℕ). Made p (Ok tt) ∷ changes made.cleared) (sym is);
-  }
+  makes_draft path at file before looked after same is made = search (rules, tries_by)
 
   pub made_for : (path : List ℕ) (file before between after : List DiskEvent) → DraftCalls folder port before between
       → IsDraftOf folder port path → IsMade path file between after → IsMadeFor folder port path file before after
-  made_for path file before between after first own made = record {
-    own = own;
-    cleared = made.cleared;
-    tries = then_calls before between made.cleared first (made.tries folder port own);
-    new = made.new;
-  }
+  made_for path file before between after first own made = search (rules, then_calls)
 
   -- such calls, and then those
   pub made_more : (path : List ℕ) (file before between after : List DiskEvent) → DraftCalls folder port before between
       → IsMadeFor folder port path file between after → IsMadeFor folder port path file before after
-  made_more path file before between after first made = record {
-    own = made.own;
-    cleared = made.cleared;
-    tries = then_calls before between made.cleared first made.tries;
-    new = made.new;
-  }
+  made_more path file before between after first made = search (rules, then_calls)
 
 -- it is still at its path
 pub made_there : (path : List ℕ) (file cleared after : List DiskEvent) → IsNew path file cleared after
@@ -192,9 +171,7 @@ removed_at path found false before looked after is left folder port own =
 -- what was just locked is removed, or left
 pub removes_at : (path : List ℕ) (calls calls' before locked after : List DiskEvent)
     → locked ≡ Locked path (Ok tt) ∷ before → RemovesOwn path calls calls' locked after → TriesAt path before after
-removes_at path calls calls' before locked after is removes =
-    removed_at path removes.looks.found removes.finds before removes.looked after
-    (removes.looks.looked ∙ ap (λ (l : List DiskEvent). Looked path removes.looks.found ∷ l) is) removes.removes
+removes_at path calls calls' before locked after is removes = search (rules, removed_at)
 
 module _ {F : Type 0} where
   -- a draft whose file was just made
@@ -203,11 +180,8 @@ module _ {F : Type 0} where
       → string_bytes draft.target ≡ target → draft.writer ≡ writer → writer.file ≡ file
       → IsMadeFor folder port path file.trace.events before log → IsThere draft log
   new_draft_there draft folder target path port writer file before log is_path is_target wrote opened made = record {
-    apart = λ same. draft_apart folder target port path made.own
-        (sym is_path ∙ same ∙ ap (λ (t : List ℕ). lock_of t) is_target);
-    still = subst (λ (p : List ℕ). IsStillAt p (made_when (calls_of draft.writer)) log) (sym is_path)
-        (subst (λ (w : Option ℕ). IsStillAt path w log)
-        (sym (ap (λ (w : DiskWriter F). made_when (calls_of w)) wrote
-        ∙ ap (λ (f : DiskFile F). made_when f.trace.events) opened))
-        (made_there path file.trace.events made.cleared log made.new));
+    apart = λ same. draft_apart folder target port path made.own (sym is_path ∙ same ∙ ap (λ t. lock_of t) is_target);
+    still = subst (λ p. IsStillAt p (made_when (calls_of draft.writer)) log) (sym is_path) (subst (λ w. IsStillAt path w
+        log) (sym (ap (λ w. made_when (calls_of w)) wrote ∙ ap (λ f. made_when f.trace.events) opened)) (made_there path
+        file.trace.events made.cleared log made.new));
   }

@@ -1,5 +1,6 @@
 -- The file that an open file made is still at its path.
 use Rattle.std.proofs.Common.{◌≡◌, ◌≢◌, ◌∙◌, ℕ, List, [], ◌∷◌, ◌++◌, Option, Some, Ok, Err, inl, inr, length, ap, refl, subst, sym}
+use Rattle.std.proofs.Common.{rules}
 use Rattle.std.specs.Prelude.{◌⊎◌}
 use Rattle.std.specs.String.{string_bytes}
 use Rattle.tftp_disk.specs.DiskTrace.{DiskEvent, Done, FileState, made_when}
@@ -13,7 +14,7 @@ use Rattle.tftp_disk.specs.declared.disk_file.DiskFile.{DiskFile}
 use Rattle.tftp_disk.specs.declared.disk_file.DiskFolder.{DiskFolder}
 use Rattle.tftp_folder.specs.Commit.{lock_of}
 use Rattle.tftp_folder.specs.Draft.{IsThere, SameNames}
-use Rattle.tftp_folder.specs.Placed.{placed, AreNamedThere, LeavesOthers, NamesThere, StaysThere}
+use Rattle.tftp_folder.specs.Placed.{placed, AreNamedThere, LeavesOthers, StaysThere}
 use Rattle.tftp_folder.specs.declared.folder_draft.FolderDraft.{FolderDraft}
 
 -- a file is made, or removed, at another path
@@ -110,10 +111,7 @@ module _ (path : List ℕ) (when : Option ℕ) where
   -- calls that make, name and remove nothing
   pub still_by : (before after : List DiskEvent) → placed after ≡ placed before → IsStillAt path when before
       → IsStillAt path when after
-  still_by before after same still =
-      from_in after (subst StillIn (sym same)
-      (subst (λ (l : List DiskEvent). StillIn (placed l)) (sym still.made)
-      (to_in still.since still.before still.left still.when)))
+  still_by before after same still = search (rules, from_in, to_in)
 
 -- calls that make, name and remove nothing
 pub looks_there : (before after : List DiskEvent) → placed after ≡ placed before → StaysThere before after
@@ -122,17 +120,13 @@ looks_there before after same names = subst AreNamedThere (sym same) names
 -- the same after calls that make, name and remove nothing
 pub then_others : (folder : List ℕ) (port : ℕ) (before looked after : List DiskEvent) → placed looked ≡ placed before
     → LeavesOthers folder port looked after → LeavesOthers folder port before after
-then_others folder port before looked after same leaves path when none still =
-    leaves path when none (still_by path when before looked same still)
+then_others folder port before looked after same leaves path when none still = search (rules, still_by)
 
 module _ {F : Type 0} where
   still_as : (draft : FolderDraft F) (file : FileState) (from : List ℕ) (before looked : List DiskEvent)
       → placed looked ≡ placed before → file.made_when ≡ made_when (calls_of draft.writer)
       → from ≡ string_bytes draft.draft → IsThere draft before → IsStillAt from file.made_when looked
-  still_as draft file from before looked same making path there =
-      subst (λ (p : List ℕ). IsStillAt p file.made_when looked) (sym path)
-      (subst (λ (w : Option ℕ). IsStillAt (string_bytes draft.draft) w looked) (sym making)
-      (still_by (string_bytes draft.draft) (made_when (calls_of draft.writer)) before looked same there.still))
+  still_as draft file from before looked same making path there = search (rules, still_by)
 
   -- the draft is renamed after such calls
   pub rename_there : (draft : FolderDraft F) (file : FileState) (from to : List ℕ) (answer : Done)
@@ -140,52 +134,36 @@ module _ {F : Type 0} where
       → file.made_when ≡ made_when (calls_of draft.writer) → from ≡ string_bytes draft.draft
       → after ≡ Renamed file from to answer ∷ looked → IsThere draft before → StaysThere before after
   rename_there draft file from to answer before looked after same making path is there names =
-      subst NamesThere (sym is)
-      (still_as draft file from before looked same making path there, looks_there before looked same names)
+      search (rules, still_as, looks_there)
 
   -- it is linked after such calls
   pub link_there : (draft : FolderDraft F) (file : FileState) (from to : List ℕ) (answer : Done)
       (before after : List DiskEvent)
       → file.made_when ≡ made_when (calls_of draft.writer) → from ≡ string_bytes draft.draft
       → after ≡ Linked file from to answer ∷ before → IsThere draft before → StaysThere before after
-  link_there draft file from to answer before after making path is there names =
-      subst NamesThere (sym is) (still_as draft file from before before refl making path there, names)
+  link_there draft file from to answer before after making path is there names = search rules
 
   -- its file is still there after a call that leaves it
   pub past_there : (draft : FolderDraft F) (event : DiskEvent) (before after : List DiskEvent)
       → LeavesPath (string_bytes draft.draft) event → after ≡ event ∷ before → IsThere draft before
       → IsThere draft after
-  past_there draft event before after leaves is there = record {
-    apart = there.apart;
-    still = subst (IsStillAt (string_bytes draft.draft) (made_when (calls_of draft.writer))) (sym is)
-        (still_past (string_bytes draft.draft) (made_when (calls_of draft.writer)) event before leaves there.still);
-  }
+  past_there draft event before after leaves is there = search (rules, still_past)
 
   -- and after calls that make, name and remove nothing
   pub looks_past : (draft : FolderDraft F) (before after : List DiskEvent) → placed after ≡ placed before
       → IsThere draft before → IsThere draft after
-  looks_past draft before after same there = record {
-    apart = there.apart;
-    still = still_by (string_bytes draft.draft) (made_when (calls_of draft.writer)) before after same there.still;
-  }
+  looks_past draft before after same there = search (rules, still_by)
 
   -- it is another value of the same draft
   pub same_there : (a b : FolderDraft F) (log : List DiskEvent) → SameNames a b → IsThere a log → IsThere b log
-  same_there a b log names there = record {
-    apart = λ same. there.apart (sym (ap string_bytes names.draft) ∙ same
-        ∙ ap (λ (t : List ℕ). lock_of t) (ap string_bytes names.target));
-    still = subst (λ (w : Option ℕ). IsStillAt (string_bytes b.draft) w log) (sym names.making)
-        (subst (λ (p : List ℕ). IsStillAt p (made_when (calls_of a.writer)) log) (sym (ap string_bytes names.draft))
-        there.still);
-  }
+  same_there a b log names there = search rules
 
   -- the lock of its name is made
   pub lock_there : (draft : FolderDraft F) (at : List ℕ) (answer : Done) (before after : List DiskEvent)
       → at ≡ lock_of (string_bytes draft.target) → after ≡ Made at answer ∷ before → IsThere draft before
       → IsThere draft after
   lock_there draft at answer before after lock is there =
-      past_there draft (Made at answer) before after
-      (leaves_made (string_bytes draft.draft) at answer (λ same. there.apart (same ∙ lock))) is there
+      past_there _ _ _ _ (leaves_made (string_bytes draft.draft) at answer (λ same. there.apart (same ∙ lock))) is there
 
   -- its open file was made when the draft says
   pub same_making : (draft : FolderDraft F) (file : DiskFile F) → file ≡ draft.writer.file
@@ -195,8 +173,7 @@ module _ {F : Type 0} where
   -- the folder is synced
   pub syncs_placed : (folder : Option (DiskFolder F)) (before after : List DiskEvent) → SyncsAlone folder before after
       → placed after ≡ placed before
-  syncs_placed folder before after (inl same) = ap placed same
-  syncs_placed folder before after (inr (answer, is)) = ap placed is
+  syncs_placed folder before after syncs = search rules
 
 -- the folder of a path is opened
 pub opens_placed : (path : List ℕ) (before after : List DiskEvent) → OpensAlone path before after

@@ -1,8 +1,9 @@
 -- The folders on the way to a name were looked at before it was given.
-use Rattle.std.proofs.Common.{◌≡◌, ◌∙◌, ℕ, Bool, true, false, List, [], ◌∷◌, ◌++◌, append_assoc, Result, Ok, Err, ap, refl, subst, sym}
+use Rattle.std.proofs.lemmas.Grind.{common_steps}
+use Rattle.std.proofs.Common.{◌≡◌, ◌∙◌, ℕ, List, [], ◌∷◌, ◌++◌, Result, Err, ap, refl, subst, sym, arith, rules}
 use Rattle.std.specs.declared.io.Error.{Error}
 use Rattle.tftp_disk.specs.DiskTrace.{DiskEvent, Done, FileState}
-use Rattle.tftp_disk.specs.DiskTrace.DiskEvent.{Linked, Locked, Looked, Made, Removed, Renamed, Tried}
+use Rattle.tftp_disk.specs.DiskTrace.DiskEvent.{Linked, Looked, Made, Removed, Renamed, Tried}
 use Rattle.tftp_disk.specs.Folder.{IsFolderOf}
 use Rattle.tftp_disk.specs.NamedFolder.{OpensAlone}
 use Rattle.tftp_disk.specs.declared.found.Found.{Found}
@@ -23,8 +24,7 @@ both_reached root (calls ∷ newer) older first second = (first.0, both_reached 
 -- what was reached before such calls, and by them
 pub still_reached : (root : List ℕ) (before after : List DiskEvent) → ReachesNames root before after
     → AreReached root (placed before) → AreReached root (placed after)
-still_reached root before after reaches reached =
-    subst (AreReached root) (sym reaches.are) (both_reached root reaches.newer (placed before) reaches.reached reached)
+still_reached root before after reaches reached = search (rules, both_reached)
 
 module _ (root : List ℕ) where
   -- calls that make, name and remove nothing
@@ -32,14 +32,7 @@ module _ (root : List ℕ) where
   looks_reach before after same = record { newer = []; are = same; reached = tt }
 
   pub then_reaches : (a b c : List DiskEvent) → ReachesNames root a b → ReachesNames root b c → ReachesNames root a c
-  then_reaches a b c first second = record {
-    newer = second.newer ++ first.newer;
-    are =
-        second.are
-        ∙ (ap (λ (l : List (List DiskEvent)). second.newer ++ l) first.are
-        ∙ sym (append_assoc second.newer first.newer (placed a)));
-    reached = both_reached root second.newer first.newer second.reached first.reached;
-  }
+  then_reaches a b c first second = grind (arith, common_steps, both_reached)
 
   -- a file is removed, or made
   pub remove_reaches : (at : List ℕ) (answer : Done) (before after : List DiskEvent) → after ≡ Removed at answer ∷ before
@@ -106,18 +99,13 @@ module _ (root : List ℕ) where
   -- the calls that make a draft name no file
   pub draft_reaches : (folder : List ℕ) (port : ℕ) (before after : List DiskEvent) → DraftCalls folder port before after
       → ReachesNames root before after
-  draft_reaches folder port before _ None_yet = looks_reach before before refl
+  draft_reaches folder port before _ None_yet = looks_reach _ _ refl
   draft_reaches folder port before _ (Look {path = path} {after = after} answer is calls) =
-      then_reaches before after _ (draft_reaches folder port before after calls)
-      (looks_reach after (Looked path answer ∷ after) refl)
+      then_reaches _ _ _ (draft_reaches _ _ _ _ calls) (looks_reach _ _ refl)
   draft_reaches folder port before _ (Lock {path = path} {after = after} answer is calls) =
-      then_reaches before after _ (draft_reaches folder port before after calls)
-      (looks_reach after (Locked path answer ∷ after) refl)
+      then_reaches _ _ _ (draft_reaches _ _ _ _ calls) (looks_reach _ _ refl)
   draft_reaches folder port before _ (Remove {path = path} {after = after} removal found is calls) =
-      then_reaches before after _ (draft_reaches folder port before after calls)
-      (then_reaches after (Looked path found ∷ Locked path (Ok tt) ∷ after) _
-      (looks_reach after (Looked path found ∷ Locked path (Ok tt) ∷ after) refl)
-      (remove_reaches path removal (Looked path found ∷ Locked path (Ok tt) ∷ after) _ refl))
+      then_reaches _ _ _ (draft_reaches _ _ _ _ calls) (then_reaches _ _ _ (looks_reach _ _ refl) (remove_reaches _ _ _
+      _ refl))
   draft_reaches folder port before _ (Make {path = path} {after = after} answer is calls) =
-      then_reaches before after _ (draft_reaches folder port before after calls)
-      (make_reaches path answer after (Made path answer ∷ after) refl)
+      then_reaches _ _ _ (draft_reaches _ _ _ _ calls) (make_reaches _ _ _ _ refl)

@@ -1,5 +1,6 @@
 -- What a source of a folder gives is what its text gives.
 use Rattle.std.proofs.Common.{◌≡◌, ◌∙◌, ℕ, Bool, true, false, if◌then◌else◌, List, [], ◌∷◌, Ok, Err, append-nil, refl, subst, sym}
+use Rattle.std.proofs.Common.{rules}
 use Rattle.std.specs.declared.io.SeekFrom.TheVariants.{Start, End, Current}
 use Rattle.tftp_disk.specs.DiskTrace.{DiskEvent}
 use Rattle.tftp_disk.specs.DiskTrace.DiskEvent.{Looked, Followed, Resolved, Opened, Tried, Created, Made, Locked, Linked, Renamed, Removed}
@@ -10,7 +11,7 @@ use Rattle.tftp_file.specs.Source.{GivesInTurn, SourceMeaning}
 use Rattle.tftp_file.specs.Source.GivesInTurn.{Gave_more, Gave_nothing}
 use Rattle.tftp_disk.specs.DiskSourceLaws.{GivesInOrder}
 use Rattle.tftp_disk.specs.declared.disk_source.DiskSource.{DiskSource}
-use Rattle.tftp_folder.specs.Source.{calls_of, folder_source, text_of, GivesFile}
+use Rattle.tftp_folder.specs.Source.{folder_source, text_of, GivesFile}
 use Rattle.tftp_folder.specs.declared.folder_source.FolderSource.{FolderSource}
 
 -- nothing was read since the start
@@ -53,5 +54,4 @@ module _ {V F : Type 0} (log : V → List DiskEvent) (texts : SourceMeaning (Dis
 
   pub gives_its_file : GivesInOrder texts → GivesFile log (folder_source log texts)
   gives_its_file in_order root path mode stated first last text opens turn =
-      in_order mode (text_of first) (text_of last) text (text_gives first last text turn) opens.unread
-      (nothing_given (calls_of first) opens.start)
+      search (rules, text_gives, nothing_given)

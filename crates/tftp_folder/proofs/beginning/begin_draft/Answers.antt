@@ -1,5 +1,6 @@
 -- The place is looked for, and then the file of the draft is made: no other path is changed.
-use Rattle.std.proofs.Common.{◌∙◌, List, ap, refl, rules, subst, sym}
+use Rattle.std.proofs.lemmas.Grind.{common_steps}
+use Rattle.std.proofs.Common.{◌∙◌, List, ap, refl, rules, subst, sym, arith}
 use Rattle.std.specs.String.{string_bytes}
 use Rattle.tftp_disk.specs.Changes.{changes}
 use Rattle.tftp_disk.specs.DiskTrace.{DiskEvent}
@@ -16,89 +17,67 @@ returns-in_err-place-clause-err g c =
     (sym c.place_to_write.ensures.looks) Nothing)
 
 pub returns-in_err-place-clause-others : goal.returns-in_err-place-clause-others
-returns-in_err-place-clause-others g c = λ path when none.
-    still_by path when (g.D.Looks.log c.args.disk.now) (g.D.Looks.log c.place_to_write.new.disk) c.place_to_write.ensures.placed
+returns-in_err-place-clause-others g c = search (rules, still_by)
 
 pub returns-in_err-made-clause-err : goal.returns-in_err-made-clause-err
-returns-in_err-made-clause-err g c =
-    on_err c.from_residual-in_err-made.result (subst (λ (before : List DiskEvent). TriesDraft (string_bytes c.args.served.now.drafts) c.args.port before (changes (g.D.Looks.log c.make_draft.new.disk)))
-    c.place_to_write.ensures.looks
-    (tries_by (string_bytes c.args.served.now.drafts) c.args.port (g.D.Looks.log c.place_to_write.new.disk) (g.D.Looks.log c.make_draft.new.disk) c.in_err-made.ensures.err))
+returns-in_err-made-clause-err g c = grind (arith, common_steps, on_err, tries_by)
 
 pub returns-in_err-made-clause-others : goal.returns-in_err-made-clause-others
 returns-in_err-made-clause-others g c =
-    then_others (string_bytes c.args.served.now.drafts) c.args.port (g.D.Looks.log c.args.disk.now) (g.D.Looks.log c.place_to_write.new.disk) (g.D.Looks.log c.make_draft.new.disk) c.place_to_write.ensures.placed
-    (others_by (string_bytes c.args.served.now.drafts) c.args.port (g.D.Looks.log c.place_to_write.new.disk) (g.D.Looks.log c.make_draft.new.disk) c.in_err-made.ensures.err)
+    then_others _ _ _ _ _ c.place_to_write.ensures.placed (others_by _ _ _ _ c.in_err-made.ensures.err)
 
 pub returns-in_err-made-clause-follows : goal.returns-in_err-made-clause-follows
-returns-in_err-made-clause-follows g c =
-    follows_by (string_bytes c.args.served.now.drafts) c.args.port (g.D.Looks.log c.place_to_write.new.disk) (g.D.Looks.log c.make_draft.new.disk) c.in_err-made.ensures.err ∙ c.place_to_write.ensures.follows
+returns-in_err-made-clause-follows g c = grind (arith, common_steps, follows_by)
 
 pub returns-in_err-made-clause-inside : goal.returns-in_err-made-clause-inside
 returns-in_err-made-clause-inside g c = λ drafts target all.
-    calls_inside (string_bytes c.args.served.now.drafts) c.args.port (string_bytes c.args.served.now.root) (g.D.Looks.log c.place_to_write.new.disk) (g.D.Looks.log c.make_draft.new.disk) drafts c.in_err-made.ensures.err
-    (c.place_to_write.ensures.inside drafts target all)
+    calls_inside _ _ _ _ _ drafts c.in_err-made.ensures.err (c.place_to_write.ensures.inside drafts target all)
 
 pub returns-in-Ok-clause-others : goal.returns-in-Ok-clause-others
 returns-in-Ok-clause-others g c =
-    then_others (string_bytes c.args.served.now.drafts) c.args.port (g.D.Looks.log c.args.disk.now) (g.D.Looks.log c.place_to_write.new.disk) (g.D.Looks.log c.make_draft.new.disk) c.place_to_write.ensures.placed
-    (others_by (string_bytes c.args.served.now.drafts) c.args.port (g.D.Looks.log c.place_to_write.new.disk) (g.D.Looks.log c.make_draft.new.disk)
-    (made_calls (string_bytes c.args.served.now.drafts) c.args.port (string_bytes c.in_ok-made.made.path) c.in_ok-made.made.file.trace.events (g.D.Looks.log c.place_to_write.new.disk) (g.D.Looks.log c.make_draft.new.disk) c.in_ok-made.ensures.ok))
+    then_others _ _ _ _ _ c.place_to_write.ensures.placed (others_by _ _ _ _ (made_calls _ _ _ _ _ _
+    c.in_ok-made.ensures.ok))
 
 pub returns-in-Ok-clause-follows : goal.returns-in-Ok-clause-follows
-returns-in-Ok-clause-follows g c =
-    follows_by (string_bytes c.args.served.now.drafts) c.args.port (g.D.Looks.log c.place_to_write.new.disk) (g.D.Looks.log c.make_draft.new.disk)
-    (made_calls (string_bytes c.args.served.now.drafts) c.args.port (string_bytes c.in_ok-made.made.path) c.in_ok-made.made.file.trace.events (g.D.Looks.log c.place_to_write.new.disk) (g.D.Looks.log c.make_draft.new.disk) c.in_ok-made.ensures.ok)
-    ∙ c.place_to_write.ensures.follows
+returns-in-Ok-clause-follows g c = grind (arith, common_steps, follows_by, made_calls)
 
 pub returns-in-Ok-clause-inside : goal.returns-in-Ok-clause-inside
 returns-in-Ok-clause-inside g c = λ drafts target all.
-    calls_inside (string_bytes c.args.served.now.drafts) c.args.port (string_bytes c.args.served.now.root) (g.D.Looks.log c.place_to_write.new.disk) (g.D.Looks.log c.make_draft.new.disk) drafts
-    (made_calls (string_bytes c.args.served.now.drafts) c.args.port (string_bytes c.in_ok-made.made.path) c.in_ok-made.made.file.trace.events (g.D.Looks.log c.place_to_write.new.disk) (g.D.Looks.log c.make_draft.new.disk) c.in_ok-made.ensures.ok)
-    (c.place_to_write.ensures.inside drafts target all)
+    calls_inside _ _ _ _ _ drafts (made_calls _ _ _ _ _ _ c.in_ok-made.ensures.ok) (c.place_to_write.ensures.inside
+    drafts target all)
 
 pub returns-in-Err-clause-others : goal.returns-in-Err-clause-others
 returns-in-Err-clause-others g c =
-    then_others (string_bytes c.args.served.now.drafts) c.args.port (g.D.Looks.log c.args.disk.now) (g.D.Looks.log c.place_to_write.new.disk) (g.D.Looks.log c.make_draft.new.disk) c.place_to_write.ensures.placed
-    (others_by (string_bytes c.args.served.now.drafts) c.args.port (g.D.Looks.log c.place_to_write.new.disk) (g.D.Looks.log c.make_draft.new.disk)
-    (made_calls (string_bytes c.args.served.now.drafts) c.args.port (string_bytes c.in_ok-made.made.path) c.in_ok-made.made.file.trace.events (g.D.Looks.log c.place_to_write.new.disk) (g.D.Looks.log c.make_draft.new.disk) c.in_ok-made.ensures.ok))
+    then_others _ _ _ _ _ c.place_to_write.ensures.placed (others_by _ _ _ _ (made_calls _ _ _ _ _ _
+    c.in_ok-made.ensures.ok))
 
 pub returns-in-Err-clause-follows : goal.returns-in-Err-clause-follows
 returns-in-Err-clause-follows g c =
-    follows_by (string_bytes c.args.served.now.drafts) c.args.port (g.D.Looks.log c.place_to_write.new.disk) (g.D.Looks.log c.make_draft.new.disk)
-    (made_calls (string_bytes c.args.served.now.drafts) c.args.port (string_bytes c.in_ok-made.made.path) c.in_ok-made.made.file.trace.events (g.D.Looks.log c.place_to_write.new.disk) (g.D.Looks.log c.make_draft.new.disk) c.in_ok-made.ensures.ok)
-    ∙ c.place_to_write.ensures.follows
+    follows_by _ _ _ _ (made_calls _ _ _ _ _ _ c.in_ok-made.ensures.ok) ∙ c.place_to_write.ensures.follows
 
 pub returns-in-Err-clause-inside : goal.returns-in-Err-clause-inside
 returns-in-Err-clause-inside g c = λ drafts target all.
-    calls_inside (string_bytes c.args.served.now.drafts) c.args.port (string_bytes c.args.served.now.root) (g.D.Looks.log c.place_to_write.new.disk) (g.D.Looks.log c.make_draft.new.disk) drafts
-    (made_calls (string_bytes c.args.served.now.drafts) c.args.port (string_bytes c.in_ok-made.made.path) c.in_ok-made.made.file.trace.events (g.D.Looks.log c.place_to_write.new.disk) (g.D.Looks.log c.make_draft.new.disk) c.in_ok-made.ensures.ok)
-    (c.place_to_write.ensures.inside drafts target all)
+    calls_inside _ _ _ _ _ drafts (made_calls _ _ _ _ _ _ c.in_ok-made.ensures.ok) (c.place_to_write.ensures.inside
+    drafts target all)
 
 pub returns-in-None-clause-others : goal.returns-in-None-clause-others
 returns-in-None-clause-others g c =
-    then_others (string_bytes c.args.served.now.drafts) c.args.port (g.D.Looks.log c.args.disk.now) (g.D.Looks.log c.place_to_write.new.disk) (g.D.Looks.log c.make_draft.new.disk) c.place_to_write.ensures.placed
-    (others_by (string_bytes c.args.served.now.drafts) c.args.port (g.D.Looks.log c.place_to_write.new.disk) (g.D.Looks.log c.make_draft.new.disk)
-    (made_calls (string_bytes c.args.served.now.drafts) c.args.port (string_bytes c.in_ok-made.made.path) c.in_ok-made.made.file.trace.events (g.D.Looks.log c.place_to_write.new.disk) (g.D.Looks.log c.make_draft.new.disk) c.in_ok-made.ensures.ok))
+    then_others _ _ _ _ _ c.place_to_write.ensures.placed (others_by _ _ _ _ (made_calls _ _ _ _ _ _
+    c.in_ok-made.ensures.ok))
 
 pub returns-in-None-clause-follows : goal.returns-in-None-clause-follows
-returns-in-None-clause-follows g c =
-    follows_by (string_bytes c.args.served.now.drafts) c.args.port (g.D.Looks.log c.place_to_write.new.disk) (g.D.Looks.log c.make_draft.new.disk)
-    (made_calls (string_bytes c.args.served.now.drafts) c.args.port (string_bytes c.in_ok-made.made.path) c.in_ok-made.made.file.trace.events (g.D.Looks.log c.place_to_write.new.disk) (g.D.Looks.log c.make_draft.new.disk) c.in_ok-made.ensures.ok)
-    ∙ c.place_to_write.ensures.follows
+returns-in-None-clause-follows g c = grind (arith, common_steps, follows_by, made_calls)
 
 pub returns-in-None-clause-inside : goal.returns-in-None-clause-inside
 returns-in-None-clause-inside g c = λ drafts target all.
-    calls_inside (string_bytes c.args.served.now.drafts) c.args.port (string_bytes c.args.served.now.root) (g.D.Looks.log c.place_to_write.new.disk) (g.D.Looks.log c.make_draft.new.disk) drafts
-    (made_calls (string_bytes c.args.served.now.drafts) c.args.port (string_bytes c.in_ok-made.made.path) c.in_ok-made.made.file.trace.events (g.D.Looks.log c.place_to_write.new.disk) (g.D.Looks.log c.make_draft.new.disk) c.in_ok-made.ensures.ok)
-    (c.place_to_write.ensures.inside drafts target all)
+    calls_inside _ _ _ _ _ drafts (made_calls _ _ _ _ _ _ c.in_ok-made.ensures.ok) (c.place_to_write.ensures.inside
+    drafts target all)
 
 pub returns-in-Err-clause-err : goal.returns-in-Err-clause-err
 returns-in-Err-clause-err g c =
-    subst (λ (before : List DiskEvent). TriesDraft (string_bytes c.args.served.now.drafts) c.args.port before (changes (g.D.Looks.log c.make_draft.new.disk)))
-    c.place_to_write.ensures.looks
-    (tries_by (string_bytes c.args.served.now.drafts) c.args.port (g.D.Looks.log c.place_to_write.new.disk) (g.D.Looks.log c.make_draft.new.disk)
-    (made_calls (string_bytes c.args.served.now.drafts) c.args.port (string_bytes c.in_ok-made.made.path) c.in_ok-made.made.file.trace.events (g.D.Looks.log c.place_to_write.new.disk) (g.D.Looks.log c.make_draft.new.disk) c.in_ok-made.ensures.ok))
+    subst (λ (before : List DiskEvent). TriesDraft (string_bytes c.args.served.now.drafts) c.args.port before (changes
+    (g.D.Looks.log c.make_draft.new.disk)))
+    c.place_to_write.ensures.looks (tries_by _ _ _ _ (made_calls _ _ _ _ _ _ c.in_ok-made.ensures.ok))
 
 pub returns-in-Ok-clause-ok : goal.returns-in-Ok-clause-ok
 returns-in-Ok-clause-ok g c = record {
@@ -124,45 +103,33 @@ returns-in-None-clause-ok g c = record {
 
 pub returns-in-Ok-clause-there : goal.returns-in-Ok-clause-there
 returns-in-Ok-clause-there g c =
-    same_there c.new-draft.result c.take_permissions.new.self (g.D.Looks.log c.make_draft.new.disk)
-    c.take_permissions.ensures.stays.names
-    (new_draft_there c.new-draft.result (string_bytes c.args.served.now.drafts) (string_bytes c.new-draft.result.target)
-    (string_bytes c.in_ok-made.made.path) c.args.port c.new.result c.in_ok-made.made.file (g.D.Looks.log c.place_to_write.new.disk) (g.D.Looks.log c.make_draft.new.disk)
-    (ap string_bytes c.new-draft.ensures.draft) refl c.new-draft.ensures.writer c.new.ensures.file c.in_ok-made.ensures.ok)
+    same_there _ _ _ c.take_permissions.ensures.stays.names (new_draft_there _ _ _ _ _ _ _ _ _ (ap string_bytes
+    c.new-draft.ensures.draft) refl c.new-draft.ensures.writer c.new.ensures.file c.in_ok-made.ensures.ok)
 
 pub returns-in-None-clause-there : goal.returns-in-None-clause-there
 returns-in-None-clause-there g c =
-    new_draft_there c.new-draft.result (string_bytes c.args.served.now.drafts) (string_bytes c.new-draft.result.target)
-    (string_bytes c.in_ok-made.made.path) c.args.port c.new.result c.in_ok-made.made.file (g.D.Looks.log c.place_to_write.new.disk) (g.D.Looks.log c.make_draft.new.disk)
-    (ap string_bytes c.new-draft.ensures.draft) refl c.new-draft.ensures.writer c.new.ensures.file c.in_ok-made.ensures.ok
+    new_draft_there _ _ _ _ _ _ _ _ _ (ap string_bytes c.new-draft.ensures.draft) refl c.new-draft.ensures.writer
+    c.new.ensures.file c.in_ok-made.ensures.ok
 
 pub returns-in_err-place-clause-reaches : goal.returns-in_err-place-clause-reaches
-returns-in_err-place-clause-reaches g c = λ root.
-    looks_reach root (g.D.Looks.log c.args.disk.now) (g.D.Looks.log c.place_to_write.new.disk) c.place_to_write.ensures.placed
+returns-in_err-place-clause-reaches g c = search (rules, looks_reach)
 
 pub returns-in_err-made-clause-reaches : goal.returns-in_err-made-clause-reaches
 returns-in_err-made-clause-reaches g c = λ root.
-    then_reaches root (g.D.Looks.log c.args.disk.now) (g.D.Looks.log c.place_to_write.new.disk) (g.D.Looks.log c.make_draft.new.disk)
-    (looks_reach root (g.D.Looks.log c.args.disk.now) (g.D.Looks.log c.place_to_write.new.disk) c.place_to_write.ensures.placed)
-    (draft_reaches root (string_bytes c.args.served.now.drafts) c.args.port (g.D.Looks.log c.place_to_write.new.disk) (g.D.Looks.log c.make_draft.new.disk) c.in_err-made.ensures.err)
+    then_reaches _ _ _ _ (looks_reach root _ _ c.place_to_write.ensures.placed) (draft_reaches root _ _ _ _
+    c.in_err-made.ensures.err)
 
 pub returns-in-Ok-clause-reaches : goal.returns-in-Ok-clause-reaches
 returns-in-Ok-clause-reaches g c = λ root.
-    then_reaches root (g.D.Looks.log c.args.disk.now) (g.D.Looks.log c.place_to_write.new.disk) (g.D.Looks.log c.make_draft.new.disk)
-    (looks_reach root (g.D.Looks.log c.args.disk.now) (g.D.Looks.log c.place_to_write.new.disk) c.place_to_write.ensures.placed)
-    (draft_reaches root (string_bytes c.args.served.now.drafts) c.args.port (g.D.Looks.log c.place_to_write.new.disk) (g.D.Looks.log c.make_draft.new.disk)
-    (made_calls (string_bytes c.args.served.now.drafts) c.args.port (string_bytes c.in_ok-made.made.path) c.in_ok-made.made.file.trace.events (g.D.Looks.log c.place_to_write.new.disk) (g.D.Looks.log c.make_draft.new.disk) c.in_ok-made.ensures.ok))
+    then_reaches _ _ _ _ (looks_reach root _ _ c.place_to_write.ensures.placed) (draft_reaches root _ _ _ _ (made_calls
+    _ _ _ _ _ _ c.in_ok-made.ensures.ok))
 
 pub returns-in-Err-clause-reaches : goal.returns-in-Err-clause-reaches
 returns-in-Err-clause-reaches g c = λ root.
-    then_reaches root (g.D.Looks.log c.args.disk.now) (g.D.Looks.log c.place_to_write.new.disk) (g.D.Looks.log c.make_draft.new.disk)
-    (looks_reach root (g.D.Looks.log c.args.disk.now) (g.D.Looks.log c.place_to_write.new.disk) c.place_to_write.ensures.placed)
-    (draft_reaches root (string_bytes c.args.served.now.drafts) c.args.port (g.D.Looks.log c.place_to_write.new.disk) (g.D.Looks.log c.make_draft.new.disk)
-    (made_calls (string_bytes c.args.served.now.drafts) c.args.port (string_bytes c.in_ok-made.made.path) c.in_ok-made.made.file.trace.events (g.D.Looks.log c.place_to_write.new.disk) (g.D.Looks.log c.make_draft.new.disk) c.in_ok-made.ensures.ok))
+    then_reaches _ _ _ _ (looks_reach root _ _ c.place_to_write.ensures.placed) (draft_reaches root _ _ _ _ (made_calls
+    _ _ _ _ _ _ c.in_ok-made.ensures.ok))
 
 pub returns-in-None-clause-reaches : goal.returns-in-None-clause-reaches
 returns-in-None-clause-reaches g c = λ root.
-    then_reaches root (g.D.Looks.log c.args.disk.now) (g.D.Looks.log c.place_to_write.new.disk) (g.D.Looks.log c.make_draft.new.disk)
-    (looks_reach root (g.D.Looks.log c.args.disk.now) (g.D.Looks.log c.place_to_write.new.disk) c.place_to_write.ensures.placed)
-    (draft_reaches root (string_bytes c.args.served.now.drafts) c.args.port (g.D.Looks.log c.place_to_write.new.disk) (g.D.Looks.log c.make_draft.new.disk)
-    (made_calls (string_bytes c.args.served.now.drafts) c.args.port (string_bytes c.in_ok-made.made.path) c.in_ok-made.made.file.trace.events (g.D.Looks.log c.place_to_write.new.disk) (g.D.Looks.log c.make_draft.new.disk) c.in_ok-made.ensures.ok))
+    then_reaches _ _ _ _ (looks_reach root _ _ c.place_to_write.ensures.placed) (draft_reaches root _ _ _ _ (made_calls
+    _ _ _ _ _ _ c.in_ok-made.ensures.ok))

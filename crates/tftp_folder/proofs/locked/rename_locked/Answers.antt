@@ -1,6 +1,5 @@
 -- The lock of a name below the root is there, too.
-use Rattle.std.proofs.Common.{◌∙◌, subst, sym}
-use Rattle.std.specs.String.{string_bytes}
+use Rattle.std.proofs.Common.{◌∙◌, subst, sym, rules}
 use Rattle.tftp_folder.specs.Inside.{AreInside}
 use Rattle.tftp_folder.proofs.InsideLemmas.{lock_inside}
 use Rattle.tftp_folder.proofs.PlacedLemmas.{lock_there}
@@ -10,17 +9,21 @@ use Rattle.tftp_folder.proofs.locked.rename_locked.Goals as goal
 
 pub returns-in-Ok-rename_new-clause-inside : goal.returns-in-Ok-rename_new-clause-inside
 returns-in-Ok-rename_new-clause-inside g c = λ root below all.
-    let lock = lock_inside root (string_bytes c.args.draft.now.target) c.as_str-path.result.now
-    (c.as_str-path.ensures.value ∙ c.in-Ok.ensures) below.target in
-    subst (AreInside root) (sym c.remove.ensures)
-    (lock, c.rename_new.ensures.inside root below (subst (AreInside root) (sym c.make.ensures.noted) (lock, all)))
+    let lock = lock_inside _ _ _ (c.as_str-path.ensures.value ∙ c.in-Ok.ensures) below.target in
+    subst (AreInside root) (sym c.remove.ensures) (
+      lock,
+      c.rename_new.ensures.inside root below (subst (AreInside root)
+          (sym c.make.ensures.noted) (lock, all)),
+    )
 
 pub returns-clause-inside : goal.returns-clause-inside
 returns-clause-inside g c = λ root below all.
-    let lock = lock_inside root (string_bytes c.args.draft.now.target) c.as_str-path.result.now
-    (c.as_str-path.ensures.value ∙ c.in-Ok.ensures) below.target in
-    subst (AreInside root) (sym c.remove-in-Err-rename_new.ensures)
-    (lock, c.rename_new.ensures.inside root below (subst (AreInside root) (sym c.make.ensures.noted) (lock, all)))
+    let lock = lock_inside _ _ _ (c.as_str-path.ensures.value ∙ c.in-Ok.ensures) below.target in
+    subst (AreInside root) (sym c.remove-in-Err-rename_new.ensures) (
+      lock,
+      c.rename_new.ensures.inside root below
+          (subst (AreInside root) (sym c.make.ensures.noted) (lock, all)),
+    )
 
 pub returns-in-Ok-rename_new-clause-there : goal.returns-in-Ok-rename_new-clause-there
 returns-in-Ok-rename_new-clause-there g c = λ there names.
@@ -45,28 +48,18 @@ returns-in-Ok-rename_new-clause-reaches g c = λ root reached.
     let before = g.D.Looks.log c.args.disk.now in
     let locked = g.D.Looks.log c.make.new.self in
     let renamed = g.D.Looks.log c.rename_new.new.disk in
-    then_reaches root before locked (g.D.Looks.log c.remove.new.self)
-    (make_reaches root c.as_str-path.result.now _ before locked c.make.ensures.noted)
-    (then_reaches root locked renamed (g.D.Looks.log c.remove.new.self)
-    (c.rename_new.ensures.reaches root
-    (lock_reached root c.as_str-path.result.now (string_bytes c.args.draft.now.target) _ before locked
-    (c.as_str-path.ensures.value ∙ c.in-Ok.ensures) c.make.ensures.noted reached))
-    (remove_reaches root c.as_str-path.result.now _ renamed (g.D.Looks.log c.remove.new.self) c.remove.ensures))
+    then_reaches _ _ _ _ (make_reaches root _ _ _ _ c.make.ensures.noted) (then_reaches _ _ _ _
+    (c.rename_new.ensures.reaches root (lock_reached _ _ _ _ _ _ (c.as_str-path.ensures.value ∙ c.in-Ok.ensures)
+    c.make.ensures.noted reached)) (remove_reaches root _ _ _ _ c.remove.ensures))
 
 pub returns-clause-reaches : goal.returns-clause-reaches
 returns-clause-reaches g c = λ root reached.
     let before = g.D.Looks.log c.args.disk.now in
     let locked = g.D.Looks.log c.make.new.self in
     let renamed = g.D.Looks.log c.rename_new.new.disk in
-    then_reaches root before locked (g.D.Looks.log c.remove-in-Err-rename_new.new.self)
-    (make_reaches root c.as_str-path.result.now _ before locked c.make.ensures.noted)
-    (then_reaches root locked renamed (g.D.Looks.log c.remove-in-Err-rename_new.new.self)
-    (c.rename_new.ensures.reaches root
-    (lock_reached root c.as_str-path.result.now (string_bytes c.args.draft.now.target) _ before locked
-    (c.as_str-path.ensures.value ∙ c.in-Ok.ensures) c.make.ensures.noted reached))
-    (remove_reaches root c.as_str-path.result.now _ renamed (g.D.Looks.log c.remove-in-Err-rename_new.new.self) c.remove-in-Err-rename_new.ensures))
+    then_reaches _ _ _ _ (make_reaches root _ _ _ _ c.make.ensures.noted) (then_reaches _ _ _ _
+    (c.rename_new.ensures.reaches root (lock_reached _ _ _ _ _ _ (c.as_str-path.ensures.value ∙ c.in-Ok.ensures)
+    c.make.ensures.noted reached)) (remove_reaches root _ _ _ _ c.remove-in-Err-rename_new.ensures))
 
 pub returns-in-Err-make-clause-reaches : goal.returns-in-Err-make-clause-reaches
-returns-in-Err-make-clause-reaches g c = λ root reached.
-    make_reaches root c.as_str-path.result.now _ (g.D.Looks.log c.args.disk.now) (g.D.Looks.log c.make.new.self)
-    c.make.ensures.noted
+returns-in-Err-make-clause-reaches g c = search (rules, make_reaches)

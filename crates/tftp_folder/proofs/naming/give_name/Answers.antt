@@ -1,12 +1,12 @@
 -- The folder was opened, and the draft got no name there.
-use Rattle.std.proofs.Common.{◌∙◌, ℕ, List, ap, inr, refl, subst, sym}
+use Rattle.std.proofs.lemmas.Grind.{common_steps}
+use Rattle.std.proofs.Common.{◌∙◌, List, ap, inr, refl, subst, sym, arith, rules}
 use Rattle.std.specs.String.{string_bytes}
 use Rattle.tftp_disk.specs.Changes.{changes}
 use Rattle.tftp_disk.specs.DiskTrace.{DiskEvent}
 use Rattle.tftp_disk.specs.NamedFolder.{OpensFolder}
 use Rattle.tftp_folder.proofs.InsideLemmas.{above_inside, folder_fits, opens_inside, stays_below}
 use Rattle.tftp_folder.proofs.NamingLemmas.{looks_as, then_renames}
-use Rattle.tftp_folder.proofs.InsideLemmas.{opens_follows}
 use Rattle.tftp_folder.proofs.PlacedLemmas.{looks_past, looks_there, opens_placed, same_there}
 use Rattle.tftp_folder.proofs.ReachedLemmas.{looks_reach, then_reaches, walk_reached}
 use Rattle.tftp_folder.proofs.naming.give_name.Goals as goal
@@ -19,9 +19,8 @@ returns-clause-err g c =
     inr (inr (
       folder,
       opened,
-      subst (λ (t : List ℕ). OpensFolder t folder (changes (g.D.Looks.log c.args.disk.now)) opened)
-          (c.as_str-2.ensures.value ∙ ap string_bytes (sym c.name_in.ensures.names.target))
-          (subst (λ (before : List DiskEvent). OpensFolder path folder before opened)
+      rw (← c.as_str-2.ensures.value ∙ ap string_bytes (sym c.name_in.ensures.names.target)) (subst (λ (before : List
+          DiskEvent). OpensFolder path folder before opened)
           (c.leads_to.ensures.looks ∙ c.is_at_draft.ensures.looks) c.in-Ok.ensures.ok),
       c.in-Err-name_in.ensures.err,
     ))
@@ -46,117 +45,78 @@ returns-then-not-is_at_draft-clause-inside g c = λ below. c.is_at_draft.ensures
 pub returns-then-not-leads_to-clause-inside : goal.returns-then-not-leads_to-clause-inside
 returns-then-not-leads_to-clause-inside g c = λ below all.
     let root = c.args.root.now in
-    let own = stays_below root c.args.draft.now c.is_at_draft.new.self c.is_at_draft.ensures.stays.names below in
-    c.leads_to.ensures.inside
-    (above_inside root (string_bytes c.is_at_draft.new.self.target) c.as_str.result.now c.folder_of-folder.result.now
-    c.as_str.ensures.value own.target c.folder_of-folder.ensures)
+    let own = stays_below _ _ _ c.is_at_draft.ensures.stays.names below in
+    c.leads_to.ensures.inside (above_inside _ _ _ _ c.as_str.ensures.value own.target c.folder_of-folder.ensures)
     (c.is_at_draft.ensures.inside root (inr below.path) all)
 
 pub returns-in-Err-clause-inside : goal.returns-in-Err-clause-inside
 returns-in-Err-clause-inside g c = λ below all.
     let root = c.args.root.now in
-    let own = stays_below root c.args.draft.now c.is_at_draft.new.self c.is_at_draft.ensures.stays.names below in
-    opens_inside root (string_bytes c.is_at_draft.new.self.target) c.as_str-2.result.now (g.D.Looks.log c.leads_to.new.looks)
-    (g.D.Looks.log c.of.new.disk) c.as_str-2.ensures.value own.target c.of.ensures.calls
-    (c.leads_to.ensures.inside
-    (above_inside root (string_bytes c.is_at_draft.new.self.target) c.as_str.result.now c.folder_of-folder.result.now
-    c.as_str.ensures.value own.target c.folder_of-folder.ensures)
-    (c.is_at_draft.ensures.inside root (inr below.path) all))
+    let own = stays_below _ _ _ c.is_at_draft.ensures.stays.names below in
+    opens_inside _ _ _ _ _ c.as_str-2.ensures.value own.target c.of.ensures.calls (c.leads_to.ensures.inside
+    (above_inside _ _ _ _ c.as_str.ensures.value own.target c.folder_of-folder.ensures) (c.is_at_draft.ensures.inside
+    root (inr below.path) all))
 
 pub returns-in-Ok-name_in-clause-inside : goal.returns-in-Ok-name_in-clause-inside
 returns-in-Ok-name_in-clause-inside g c = λ below all.
     let root = c.args.root.now in
-    let own = stays_below root c.args.draft.now c.is_at_draft.new.self c.is_at_draft.ensures.stays.names below in
-    c.name_in.ensures.inside
-    (folder_fits root (string_bytes c.is_at_draft.new.self.target) c.as_str-2.result.now c.in-Ok.folder.folder
-    c.as_str-2.ensures.value own.target (changes (g.D.Looks.log c.of.new.disk))
-    c.in-Ok.ensures.fits) own
-    (opens_inside root (string_bytes c.is_at_draft.new.self.target) c.as_str-2.result.now (g.D.Looks.log c.leads_to.new.looks)
-    (g.D.Looks.log c.of.new.disk) c.as_str-2.ensures.value own.target c.of.ensures.calls
-    (c.leads_to.ensures.inside
-    (above_inside root (string_bytes c.is_at_draft.new.self.target) c.as_str.result.now c.folder_of-folder.result.now
-    c.as_str.ensures.value own.target c.folder_of-folder.ensures)
-    (c.is_at_draft.ensures.inside root (inr below.path) all)))
+    let own = stays_below _ _ _ c.is_at_draft.ensures.stays.names below in
+    c.name_in.ensures.inside (folder_fits _ _ _ _ c.as_str-2.ensures.value own.target _ c.in-Ok.ensures.fits) own
+    (opens_inside _ _ _ _ _ c.as_str-2.ensures.value own.target c.of.ensures.calls (c.leads_to.ensures.inside
+    (above_inside _ _ _ _ c.as_str.ensures.value own.target c.folder_of-folder.ensures) (c.is_at_draft.ensures.inside
+    root (inr below.path) all)))
 
 pub returns-clause-inside : goal.returns-clause-inside
 returns-clause-inside g c = λ below all.
     let root = c.args.root.now in
-    let own = stays_below root c.args.draft.now c.is_at_draft.new.self c.is_at_draft.ensures.stays.names below in
-    c.name_in.ensures.inside
-    (folder_fits root (string_bytes c.is_at_draft.new.self.target) c.as_str-2.result.now c.in-Ok.folder.folder
-    c.as_str-2.ensures.value own.target (changes (g.D.Looks.log c.of.new.disk))
-    c.in-Ok.ensures.fits) own
-    (opens_inside root (string_bytes c.is_at_draft.new.self.target) c.as_str-2.result.now (g.D.Looks.log c.leads_to.new.looks)
-    (g.D.Looks.log c.of.new.disk) c.as_str-2.ensures.value own.target c.of.ensures.calls
-    (c.leads_to.ensures.inside
-    (above_inside root (string_bytes c.is_at_draft.new.self.target) c.as_str.result.now c.folder_of-folder.result.now
-    c.as_str.ensures.value own.target c.folder_of-folder.ensures)
-    (c.is_at_draft.ensures.inside root (inr below.path) all)))
+    let own = stays_below _ _ _ c.is_at_draft.ensures.stays.names below in
+    c.name_in.ensures.inside (folder_fits _ _ _ _ c.as_str-2.ensures.value own.target _ c.in-Ok.ensures.fits) own
+    (opens_inside _ _ _ _ _ c.as_str-2.ensures.value own.target c.of.ensures.calls (c.leads_to.ensures.inside
+    (above_inside _ _ _ _ c.as_str.ensures.value own.target c.folder_of-folder.ensures) (c.is_at_draft.ensures.inside
+    root (inr below.path) all)))
 
 pub returns-then-not-is_at_draft-clause-there : goal.returns-then-not-is_at_draft-clause-there
-returns-then-not-is_at_draft-clause-there g c = λ there.
-    looks_there (g.D.Looks.log c.args.disk.now) (g.D.Looks.log c.is_at_draft.new.looks) c.is_at_draft.ensures.placed
+returns-then-not-is_at_draft-clause-there g c = search rules
 
 pub returns-then-not-leads_to-clause-there : goal.returns-then-not-leads_to-clause-there
-returns-then-not-leads_to-clause-there g c = λ there.
-    looks_there (g.D.Looks.log c.args.disk.now) (g.D.Looks.log c.leads_to.new.looks)
-    (c.leads_to.ensures.placed ∙ c.is_at_draft.ensures.placed)
+returns-then-not-leads_to-clause-there g c = search rules
 
 pub returns-in-Err-clause-there : goal.returns-in-Err-clause-there
-returns-in-Err-clause-there g c = λ there.
-    looks_there (g.D.Looks.log c.args.disk.now) (g.D.Looks.log c.of.new.disk)
-    (opens_placed c.as_str-2.result.now (g.D.Looks.log c.leads_to.new.looks) (g.D.Looks.log c.of.new.disk)
-    c.of.ensures.calls ∙ c.leads_to.ensures.placed ∙ c.is_at_draft.ensures.placed)
+returns-in-Err-clause-there g c = grind (arith, common_steps)
 
 pub returns-in-Err-clause-follows : goal.returns-in-Err-clause-follows
-returns-in-Err-clause-follows g c =
-    opens_follows c.as_str-2.result.now (g.D.Looks.log c.leads_to.new.looks) (g.D.Looks.log c.of.new.disk)
-    c.of.ensures.calls ∙ c.leads_to.ensures.follows ∙ c.is_at_draft.ensures.follows
+returns-in-Err-clause-follows g c = grind (arith, common_steps)
 
 pub returns-in-Ok-name_in-clause-there : goal.returns-in-Ok-name_in-clause-there
 returns-in-Ok-name_in-clause-there g c = λ there names.
     let before = g.D.Looks.log c.args.disk.now in
     let opened = g.D.Looks.log c.of.new.disk in
-    let same = opens_placed c.as_str-2.result.now (g.D.Looks.log c.leads_to.new.looks) (g.D.Looks.log c.of.new.disk)
-    c.of.ensures.calls ∙ c.leads_to.ensures.placed ∙ c.is_at_draft.ensures.placed in
-    c.name_in.ensures.there
-    (same_there c.args.draft.now c.is_at_draft.new.self opened c.is_at_draft.ensures.stays.names
+    let same = opens_placed _ _ _ c.of.ensures.calls ∙ c.leads_to.ensures.placed ∙ c.is_at_draft.ensures.placed in
+    c.name_in.ensures.there (same_there c.args.draft.now c.is_at_draft.new.self opened c.is_at_draft.ensures.stays.names
     (looks_past c.args.draft.now before opened same there)) (looks_there before opened same names)
 
 pub returns-in-Ok-name_in-clause-follows : goal.returns-in-Ok-name_in-clause-follows
-returns-in-Ok-name_in-clause-follows g c =
-    c.name_in.ensures.follows ∙ opens_follows c.as_str-2.result.now (g.D.Looks.log c.leads_to.new.looks) (g.D.Looks.log c.of.new.disk)
-    c.of.ensures.calls ∙ c.leads_to.ensures.follows ∙ c.is_at_draft.ensures.follows
+returns-in-Ok-name_in-clause-follows g c = grind (arith, common_steps)
 
 pub returns-clause-there : goal.returns-clause-there
 returns-clause-there g c = λ there names.
     let before = g.D.Looks.log c.args.disk.now in
     let opened = g.D.Looks.log c.of.new.disk in
-    let same = opens_placed c.as_str-2.result.now (g.D.Looks.log c.leads_to.new.looks) (g.D.Looks.log c.of.new.disk)
-    c.of.ensures.calls ∙ c.leads_to.ensures.placed ∙ c.is_at_draft.ensures.placed in
-    c.name_in.ensures.there
-    (same_there c.args.draft.now c.is_at_draft.new.self opened c.is_at_draft.ensures.stays.names
+    let same = opens_placed _ _ _ c.of.ensures.calls ∙ c.leads_to.ensures.placed ∙ c.is_at_draft.ensures.placed in
+    c.name_in.ensures.there (same_there c.args.draft.now c.is_at_draft.new.self opened c.is_at_draft.ensures.stays.names
     (looks_past c.args.draft.now before opened same there)) (looks_there before opened same names)
 
 pub returns-clause-follows : goal.returns-clause-follows
-returns-clause-follows g c =
-    c.name_in.ensures.follows ∙ opens_follows c.as_str-2.result.now (g.D.Looks.log c.leads_to.new.looks) (g.D.Looks.log c.of.new.disk)
-    c.of.ensures.calls ∙ c.leads_to.ensures.follows ∙ c.is_at_draft.ensures.follows
+returns-clause-follows g c = grind (arith, common_steps)
 
 pub returns-then-not-is_at_draft-clause-reaches : goal.returns-then-not-is_at_draft-clause-reaches
-returns-then-not-is_at_draft-clause-reaches g c =
-    looks_reach c.args.root.now (g.D.Looks.log c.args.disk.now) (g.D.Looks.log c.is_at_draft.new.looks) c.is_at_draft.ensures.placed
+returns-then-not-is_at_draft-clause-reaches g c = search (rules, looks_reach)
 
 pub returns-then-not-leads_to-clause-reaches : goal.returns-then-not-leads_to-clause-reaches
-returns-then-not-leads_to-clause-reaches g c =
-    looks_reach c.args.root.now (g.D.Looks.log c.args.disk.now) (g.D.Looks.log c.leads_to.new.looks)
-    (c.leads_to.ensures.placed ∙ c.is_at_draft.ensures.placed)
+returns-then-not-leads_to-clause-reaches g c = grind (arith, common_steps)
 
 pub returns-in-Err-clause-reaches : goal.returns-in-Err-clause-reaches
-returns-in-Err-clause-reaches g c =
-    looks_reach c.args.root.now (g.D.Looks.log c.args.disk.now) (g.D.Looks.log c.of.new.disk)
-    (opens_placed c.as_str-2.result.now (g.D.Looks.log c.leads_to.new.looks) (g.D.Looks.log c.of.new.disk)
-    c.of.ensures.calls ∙ c.leads_to.ensures.placed ∙ c.is_at_draft.ensures.placed)
+returns-in-Err-clause-reaches g c = grind (arith, common_steps)
 
 pub returns-in-Ok-name_in-clause-reaches : goal.returns-in-Ok-name_in-clause-reaches
 returns-in-Ok-name_in-clause-reaches g c =
@@ -164,14 +124,10 @@ returns-in-Ok-name_in-clause-reaches g c =
     let before = g.D.Looks.log c.args.disk.now in
     let looked = g.D.Looks.log c.leads_to.new.looks in
     let opened = g.D.Looks.log c.of.new.disk in
-    then_reaches root before opened (g.D.Looks.log c.name_in.new.disk)
-    (looks_reach root before opened
-    (opens_placed c.as_str-2.result.now looked opened c.of.ensures.calls ∙ c.leads_to.ensures.placed
-    ∙ c.is_at_draft.ensures.placed))
-    (c.name_in.ensures.reaches
-    (walk_reached root (string_bytes c.is_at_draft.new.self.target) c.as_str.result.now c.as_str-2.result.now
-    c.folder_of-folder.result.now looked opened c.as_str.ensures.value c.as_str-2.ensures.value c.folder_of-folder.ensures
-    (c.leads_to.ensures.folders c.if-not-leads_to.false) c.of.ensures.calls))
+    then_reaches _ _ _ _ (looks_reach root _ _ (opens_placed _ _ _ c.of.ensures.calls ∙ c.leads_to.ensures.placed ∙
+    c.is_at_draft.ensures.placed)) (c.name_in.ensures.reaches (walk_reached _ _ _ _ _ _ _ c.as_str.ensures.value
+    c.as_str-2.ensures.value c.folder_of-folder.ensures (c.leads_to.ensures.folders c.if-not-leads_to.false)
+    c.of.ensures.calls))
 
 pub returns-clause-reaches : goal.returns-clause-reaches
 returns-clause-reaches g c =
@@ -179,11 +135,7 @@ returns-clause-reaches g c =
     let before = g.D.Looks.log c.args.disk.now in
     let looked = g.D.Looks.log c.leads_to.new.looks in
     let opened = g.D.Looks.log c.of.new.disk in
-    then_reaches root before opened (g.D.Looks.log c.name_in.new.disk)
-    (looks_reach root before opened
-    (opens_placed c.as_str-2.result.now looked opened c.of.ensures.calls ∙ c.leads_to.ensures.placed
-    ∙ c.is_at_draft.ensures.placed))
-    (c.name_in.ensures.reaches
-    (walk_reached root (string_bytes c.is_at_draft.new.self.target) c.as_str.result.now c.as_str-2.result.now
-    c.folder_of-folder.result.now looked opened c.as_str.ensures.value c.as_str-2.ensures.value c.folder_of-folder.ensures
-    (c.leads_to.ensures.folders c.if-not-leads_to.false) c.of.ensures.calls))
+    then_reaches _ _ _ _ (looks_reach root _ _ (opens_placed _ _ _ c.of.ensures.calls ∙ c.leads_to.ensures.placed ∙
+    c.is_at_draft.ensures.placed)) (c.name_in.ensures.reaches (walk_reached _ _ _ _ _ _ _ c.as_str.ensures.value
+    c.as_str-2.ensures.value c.folder_of-folder.ensures (c.leads_to.ensures.folders c.if-not-leads_to.false)
+    c.of.ensures.calls))

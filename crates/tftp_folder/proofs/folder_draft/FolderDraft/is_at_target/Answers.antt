@@ -1,8 +1,6 @@
 -- The path is that of the file after the commit.
-use Rattle.std.proofs.Common.{subst, sym}
-use Rattle.tftp_folder.specs.Inside.{IsInside}
+use Rattle.std.proofs.Common.{rules}
 use Rattle.tftp_folder.proofs.folder_draft.FolderDraft.is_at_target.Goals as goal
 
 pub returns-clause-inside : goal.returns-clause-inside
-returns-clause-inside g c = λ root inside.
-    c.is_at.ensures.inside root (subst (IsInside root) (sym c.as_str.ensures.value) inside)
+returns-clause-inside g c = search rules

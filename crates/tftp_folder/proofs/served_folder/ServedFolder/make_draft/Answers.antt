@@ -6,16 +6,10 @@ use Rattle.tftp_folder.proofs.served_folder.ServedFolder.make_draft.Goals as goa
 
 pub returns-in-Ok-None-clause-ok : goal.returns-in-Ok-None-clause-ok
 returns-in-Ok-None-clause-ok g c =
-    if_ok c.make_later.result
-    (λ made is. made_more (string_bytes c.args.self.now.drafts) c.args.port (string_bytes made.path) made.file.trace.events
-    (g.D.Looks.log c.args.disk.now) (g.D.Looks.log c.make_own.new.disk) (g.D.Looks.log c.make_later.new.disk)
-    (c.make_own.ensures.tries (string_bytes c.args.self.now.drafts) c.args.port (inl (c.as_str.ensures.value ∙ c.requires))) is)
-    c.make_later.ensures.ok
+    if_ok _ (λ made is. made_more _ _ _ _ _ _ _ (c.make_own.ensures.tries (string_bytes c.args.self.now.drafts)
+    c.args.port (inl (c.as_str.ensures.value ∙ c.requires))) is) c.make_later.ensures.ok
 
 pub returns-in-Ok-None-clause-err : goal.returns-in-Ok-None-clause-err
 returns-in-Ok-None-clause-err g c =
-    if_err c.make_later.result
-    (λ calls. then_calls (string_bytes c.args.self.now.drafts) c.args.port (g.D.Looks.log c.args.disk.now) (g.D.Looks.log c.make_own.new.disk)
-    (g.D.Looks.log c.make_later.new.disk)
-    (c.make_own.ensures.tries (string_bytes c.args.self.now.drafts) c.args.port (inl (c.as_str.ensures.value ∙ c.requires))) calls)
-    c.make_later.ensures.err
+    if_err _ (λ calls. then_calls _ _ _ _ _ (c.make_own.ensures.tries (string_bytes c.args.self.now.drafts) c.args.port
+    (inl (c.as_str.ensures.value ∙ c.requires))) calls) c.make_later.ensures.err

@@ -1,5 +1,5 @@
 -- The front of the path is as long as the root.
-use Rattle.std.proofs.Common.{◌≡◌, ◌≤◌, ◌∙◌, ◌-◌, ℕ, List, length, take, drop, ap, arith, subst, sym}
+use Rattle.std.proofs.Common.{◌≡◌, ◌≤◌, ◌∙◌, ◌-◌, ℕ, List, length, take, drop, ap, arith, rules}
 use Rattle.std.proofs.lemmas.Grind.{common_steps}
 use Rattle.std.specs.String.{string_bytes}
 use Rattle.tftp_disk.specs.Changes.{changes}
@@ -14,8 +14,7 @@ whole_range path end = grind (arith, common_steps)
 
 range_inside : (root path front : List ℕ) (end : ℕ) → IsInside root path → length root ≤ end
     → front ≡ take (end - 0) (drop 0 path) → IsInside root front
-range_inside root path front end inside long is =
-    subst (IsInside root) (sym (is ∙ whole_range path end)) (front_inside root path end inside long)
+range_inside root path front end inside long is = search (rules, whole_range, front_inside)
 
 pub loop-segment-preserved : goal.loop-segment-preserved
 loop-segment-preserved g c =
@@ -24,10 +23,7 @@ loop-segment-preserved g c =
       ap changes c.look.ensures ∙ c.loop-segment.invariant.0,
       long,
       λ inside all.
-          look_inside root c.in-Some-get.at.now c.look.result (g.L.Looks.log c.loop-segment.looks) (g.L.Looks.log c.look.new.self)
-          c.look.ensures
-          (range_inside root c.args.target.now c.in-Some-get.at.now c.saturating_add-end.result inside long
-          c.in-Some-get.ensures.cases.0)
+          look_inside _ _ _ _ _ c.look.ensures (range_inside _ _ _ _ inside long c.in-Some-get.ensures.cases.0)
           (c.loop-segment.invariant.2 inside all),
       ap follows c.look.ensures ∙ c.loop-segment.invariant.3,
       ap placed c.look.ensures ∙ c.loop-segment.invariant.4,
@@ -38,8 +34,5 @@ returns-in-Err-clause-inside g c =
     let root = string_bytes c.args.self.now.root in
     let long : length root ≤ c.saturating_add-end.result = omega (arith, c.loop-segment.invariant.1) in
     λ inside all.
-    look_inside root c.in-Some-get.at.now c.look.result (g.L.Looks.log c.loop-segment.looks) (g.L.Looks.log c.look.new.self)
-    c.look.ensures
-    (range_inside root c.args.target.now c.in-Some-get.at.now c.saturating_add-end.result inside long
-    c.in-Some-get.ensures.cases.0)
+    look_inside _ _ _ _ _ c.look.ensures (range_inside _ _ _ _ inside long c.in-Some-get.ensures.cases.0)
     (c.loop-segment.invariant.2 inside all)
