@@ -1,12 +1,10 @@
 -- What a client does at an event, from the facts of its calls, and runs one after another.
 use Rattle.tftp_client.proofs.Common.{arith, ◌≡◌, ◌≤◌, ℕ, List, Option, None, Result, Ok, Err, IsSome, inl, inr, refl}
-use Rattle.tftp_client.proofs.Common.{sym, subst, ◌∙◌, true≢false, Packet, SinkMeaning, SourceMeaning, Files, Kind}
-use Rattle.tftp_client.proofs.Common.{Write, datagram_action, Backoff, EndState, outcome_of, Endpoint, Watch, Job}
-use Rattle.tftp_client.proofs.Common.{Converses, IsOpen, MayElapse, IsReadBy, State, deadline_at, Begins, Receives}
-use Rattle.tftp_client.proofs.Common.{Waits, Times, Rests, begun, opens, SocketEvent, waits}
+use Rattle.tftp_client.proofs.Common.{subst, ◌∙◌, Packet, SinkMeaning, SourceMeaning, Files, datagram_action, Backoff}
+use Rattle.tftp_client.proofs.Common.{EndState, outcome_of, Endpoint, Watch, Converses, IsOpen, MayElapse, IsReadBy}
+use Rattle.tftp_client.proofs.Common.{State, Begins, Receives, Waits, Times, Rests, SocketEvent, waits}
 use Rattle.std.proofs.Common.{IsErrOf, ◌↔◌}
 use Rattle.std.proofs.Common.{option_map, rules}
-use Rattle.tftp_negotiate.specs.declared.known.Kind.TheVariants.{Read}
 use Rattle.tftp_ends.specs.Action.{Decodes}
 use Rattle.tftp_ends.specs.Step.{Reply, UsesFile, reply_bytes}
 use Rattle.tftp_ends.specs.declared.fault.EndFault.{EndFault}
@@ -63,20 +61,6 @@ waits_elapsed h0 = search rules
 -- an end without an outcome is open
 pub none_open : (e : EndState) → outcome_of e.position.phase ≡ None → IsOpen e
 none_open e none = search rules
-
--- the end of a job is open when its request is sent
-pub opens_open : (kind : Kind) (job : Job) (length : ℕ) → IsOpen (opens kind job length)
-opens_open Read job length closed = true≢false (sym closed)
-opens_open Write job length closed = true≢false (sym closed)
-
--- and then a wait begins
-pub begun_open : {s : State} (backoff : Backoff) (port reading : ℕ) (e : EndState) (before : List SocketEvent)
-    → s ≡ begun backoff port reading e before → IsOpen e → IsOpen s.end
-begun_open backoff port reading e before is is_open = let Of : State → Type 0 = λ t. IsOpen t.end in subst Of (sym is) is_open
-
-pub begun_ready : {s : State} (backoff : Backoff) (port reading : ℕ) (e : EndState) (before : List SocketEvent)
-    → s ≡ begun backoff port reading e before → s.deadline ≡ deadline_at s.backoff s.now s.end
-begun_ready backoff port reading e before is = search rules
 
 -- a timeout that was refused: the end is closed
 pub is_closed : {R P : Type 0} (fault : EndFault) → (IsErrOf {T = R} (Err fault) Closed ↔ P)

@@ -21,8 +21,8 @@ use Rattle.tftp_disk.specs.declared.disk.Looks as looks
 use Rattle.tftp_lines.specs.ClientOutcome.{status_of}
 use Rattle.tftp_lines.specs.declared.client_outcome.ClientOutcome.{ClientOutcome}
 use Rattle.tftp_lines.specs.declared.client_outcome.ClientOutcome.TheVariants as ends
-use Rattle.tftp_client.specs.OnDisk.{IsLeft, IsOut, LeavesBy, LeavesEnd, LeavesTransfer, StopsOut, WritesOut}
-use Rattle.tftp_client.specs.Runs.{MayFallBack, Refused, StopsBy}
+use Rattle.tftp_client.specs.OnDisk.{EndLeaves, IsLeft, IsOut, LeavesBy, LeavesTransfer, StopsOut, WritesOut}
+use Rattle.tftp_client.specs.Runs.{FailsEnd, MayFallBack, Refused}
 use Rattle.tftp_client.proofs.HeldBytes.{AllHeld, Holds, appends, begins, goes}
 use Rattle.tftp_client.proofs.NamedOnDisk.{HasCalls, kept, log_in, paths_in, still_for, tried_in}
 use Rattle.tftp_client.proofs.Uncommitted.{NoneCommitted, uncommitted}
@@ -147,24 +147,17 @@ module _ {S : Type 0} {D F V G : Type 0} {logs : looks.Ghosts D} {writes : write
   written_out {port} {first} {file} {s} {files = Sink sink} files' work run = Rests run work
 
   -- nothing was opened, and nothing was sent
-  pub leaves_none : (most : ℕ) (end : ClientOutcome) (kind : Kind) (job : Job) (length : ℕ) (before after : List SocketEvent)
+  pub leaves_none : (most : ℕ) (end : ClientOutcome) (kind : Kind) (job : Job) (before after : List SocketEvent)
       (calls : List DiskEvent)
-      → status_of end ≡ 2 → after ≡ before → LeavesEnd sources sinks most kind job length before after calls end
-  leaves_none most end kind job length before after calls two same = search rules
-
-  -- a job of this kind failed
-  pub leaves_job : (most : ℕ) (job : Job) {kind : Kind} (length : ℕ) (before after : List SocketEvent) (calls : List DiskEvent)
-      (end : ClientOutcome)
-      → job.kind ≡ kind → LeavesEnd sources sinks most kind job length before after calls end
-      → LeavesBy sources sinks most job before after calls end
-  leaves_job most job {kind} length before after calls end is leaves =
-      let Of : Kind → Type 0 = λ k. LeavesEnd sources sinks most k job length before after calls end in
-      let left = subst Of (sym is) leaves in
-      ((length, left.0), left.1)
+      → status_of end ≡ 2 → after ≡ before → LeavesBy sources sinks most kind job before after calls end
+  leaves_none most end kind job before after calls two same =
+      let none : (failed : FailsEnd sources sinks most kind job 0 before after end)
+      × EndLeaves sources sinks most kind job 0 before after calls end failed = search rules in
+      ((0, none.0), none.1)
 
   -- at once
   pub leaves_first : (most : ℕ) (job : Job) (before after : List SocketEvent) (calls : List DiskEvent) (end : ClientOutcome)
-      → (MayFallBack job end → ⊥) → LeavesBy sources sinks most job before after calls end
+      → (MayFallBack job end → ⊥) → LeavesBy sources sinks most job.kind job before after calls end
       → LeavesTransfer sources sinks most job before after calls end
   leaves_first most job before after calls end never leaves = (inl (leaves.0, never), leaves.1)
 
@@ -172,11 +165,11 @@ module _ {S : Type 0} {D F V G : Type 0} {logs : looks.Ghosts D} {writes : write
   pub leaves_again : {most most' : ℕ} (job other : Job) (before middle after : List SocketEvent) (calls : List DiskEvent)
       (end : ClientOutcome)
       → Refused sources sinks most job before middle → other ≡ plain job → most' ≡ most
-      → LeavesBy sources sinks most' other middle after calls end
+      → LeavesBy sources sinks most' other.kind other middle after calls end
       → LeavesTransfer sources sinks most job before after calls end
   leaves_again {most} job other before middle after calls end no_options is same leaves =
-      let Of : Job → Type 0 = λ j. LeavesBy sources sinks most j middle after calls end in
-      let Within : ℕ → Type 0 = λ m. LeavesBy sources sinks m other middle after calls end in
+      let Of : Job → Type 0 = λ j. LeavesBy sources sinks most j.kind j middle after calls end in
+      let Within : ℕ → Type 0 = λ m. LeavesBy sources sinks m other.kind other middle after calls end in
       let left = subst Of is (subst Within same leaves) in
       (inr (middle, no_options, left.0), left.1)
 
@@ -188,27 +181,23 @@ module _ {S : Type 0} {D F V G : Type 0} {logs : looks.Ghosts D} {writes : write
         → TookOf sources sinks phase files bytes → IsLeft job phase files bytes calls
     left job phase files bytes calls is out has none took = search rules
 
-    -- a run that began by its request, with a new file of the job, stopped; a request is no wait
+    -- a run that began by its request, with a new file of the job, stopped
     pub leaves : (most : ℕ) (end : ClientOutcome) (kind : Kind) (job : Job) (length : ℕ) (before after : List SocketEvent)
-        (calls : List DiskEvent) {port reading : ℕ} {first : State} (file files' : Files S Local)
-        → MayOpen kind job length → first ≡ begun job.backoff port reading (opens kind job length) before
-        → StopsOut sources sinks (most + waits first.events) port first file after files' end
+        (calls : List DiskEvent) {port reading : ℕ} (file files' : Files S Local) → MayOpen kind job length
+        → StopsOut sources sinks most port (begun job.backoff port reading (opens kind job length) before) file after files' end
         → IsFileOf sources sinks kind file → IsNew sources sinks file → IsFor job file → HasCalls files' calls
-        → LeavesEnd sources sinks (most + waits before) kind job length before after calls end
-    leaves most end kind job length before after calls {port} {reading} {first} file files' may is stopped side new for has =
-        let outcome = stopped.0 in
-        let From : State → Type 0 =
-        λ s. (stops : StopsBy sources sinks (most + waits s.events) port s file after outcome)
-        × (stops.files ≡ files') × IsOut stops.files in
-        let s = subst From is (stopped.2, stopped.3, stopped.4) in
-        let At : ClientOutcome → Type 0 =
-        λ e. LeavesEnd sources sinks (most + waits before) kind job length before after calls e in
-        let calls_are = subst (λ (f : Files S Local). HasCalls f calls) (sym s.1) has in
-        let none =
-        uncommitted sources sinks s.0.converses new s.0.incomplete in
+        → LeavesBy sources sinks most kind job before after calls end
+    leaves most end kind job length before after calls {port} {reading} file files' may stopped side new for has =
+        let stops = stopped.2 in
+        let At : ClientOutcome → Type 0 = λ e. LeavesBy sources sinks most kind job before after calls e in
+        let calls_are = subst (λ (f : Files S Local). HasCalls f calls) (sym stopped.3) has in
+        let none = uncommitted sources sinks stops.converses new stops.incomplete in
         subst At (sym stopped.1) (
-          record { may = may; fails = record { port = port; reading = reading; file = file; stops = s.0 }; side = side },
-          left job s.0.last.end.position.phase s.0.files (run_moves s.0.converses nothing_moved).bytes calls
-              (still_for job file s.0.files (kept sources sinks becomes file s.0.files s.0.converses) for) s.2 calls_are none
-              (took_from sources sinks s.0.converses new),
+          (
+            length,
+            record { may = may; fails = record { port = port; reading = reading; file = file; stops = stops }; side = side },
+          ),
+          left job stops.last.end.position.phase stops.files (run_moves stops.converses nothing_moved).bytes calls
+              (still_for job file stops.files (kept sources sinks becomes file stops.files stops.converses) for) stopped.4
+              calls_are none (took_from sources sinks stops.converses new),
         )

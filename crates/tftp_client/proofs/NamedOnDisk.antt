@@ -2,8 +2,8 @@
 use Rattle.std.proofs.Common.{rules}
 use Rattle.tftp_client.proofs.Common.{◌≡◌, ◌⊎◌, ℕ, Bool, true, List, Some, inl, inr, refl, sym, ap, ◌∙◌, subst, ∥∥₁_map}
 use Rattle.tftp_client.proofs.Common.{same_Some, Holding, SinkMeaning, SourceMeaning, Files, Source, Sink, DiskEvent}
-use Rattle.tftp_client.proofs.Common.{DiskSource, SocketEvent, LocalFile, Job, Converses, State, Keeps, KeepsPlace}
-use Rattle.tftp_client.proofs.Common.{Paths, WasNamed, IsFor, job_paths, tftp_app, bytes_in, held_of, paths_of}
+use Rattle.tftp_client.proofs.Common.{DiskSource, SocketEvent, LocalFile, Job, Converses, State, KeepsPlace, Paths}
+use Rattle.tftp_client.proofs.Common.{WasNamed, IsFor, job_paths, tftp_app, bytes_in, held_of, paths_of}
 use Rattle.std.specs.declared.io.traits.Read as read
 use Rattle.std.specs.declared.io.traits.Write as write
 use Rattle.std.specs.declared.io.traits.Seek as seek
@@ -46,11 +46,6 @@ module _ {S : Type 0} {D F V G : Type 0} {logs : looks.Ghosts D} {writes : write
   pub received : (local : LocalFile D F V G logs writes views reads seeks) (files : Files S (LocalFile D F V G logs writes views reads seeks)) → KeepsFile (Sink local) files → IsReceived files
   received local (Source b) keeps = absurd keeps
   received local (Sink b) keeps = tt
-
-  -- the disk of a received file was asked for no other name
-  pub keeps_disk : (local : LocalFile D F V G logs writes views reads seeks) (files : Files S (LocalFile D F V G logs writes views reads seeks)) (disk : D) (paths : Paths) → paths_in local ≡ paths
-      → KeepsFile (Sink local) files → HasDisk files disk → Keeps paths (log_in local) (logs.log disk)
-  keeps_disk local files disk paths is keeps has = search rules
 
   -- the disk of a received file has these calls
   abbrev pub HasCalls : Files S (LocalFile D F V G logs writes views reads seeks) → List DiskEvent → Type 0
@@ -96,19 +91,19 @@ module _ {S : Type 0} {D F V G : Type 0} {logs : looks.Ghosts D} {writes : write
 
   -- what a complete file holds has the name, and nothing is asked of its disk until that is handed back
   pub of_file : ((local : TheLocal) → sinks.held local ≡ Some (held_of local.part.written local.committed))
-      → (job : Job) (files files' : Files S TheLocal) (count : ℕ) (bytes : List ℕ) (disk : D) → IsFor job files
-      → IsWhole sources sinks files count bytes → KeepsFile files files' → HasDisk files' disk
-      → IsOnDisk job files bytes (logs.log disk)
-  of_file known job (Source source) files' count bytes disk is whole keeps has = tt
-  of_file known job (Sink local) (Source source) count bytes disk is whole keeps has = absurd keeps
-  of_file known job (Sink local) (Sink last) count bytes disk is whole keeps has =
+      → (job : Job) (files files' : Files S TheLocal) (count : ℕ) (bytes : List ℕ) (calls : List DiskEvent) → IsFor job files
+      → IsWhole sources sinks files count bytes → KeepsFile files files' → HasCalls files' calls
+      → IsOnDisk job files bytes calls
+  of_file known job (Source source) files' count bytes calls is whole keeps has = tt
+  of_file known job (Sink local) (Source source) count bytes calls is whole keeps has = absurd keeps
+  of_file known job (Sink local) (Sink last) count bytes calls is whole keeps has =
       let holding = held_of local.part.written local.committed in
       let same : whole.0 ≡ holding = same_Some whole.0 holding (sym whole.1 ∙ known local) in
       let held : bytes_in local.part.written ≡ bytes = ap (λ (h : Holding). h.bytes) (sym same) ∙ whole.3 in
       let done : local.committed ≡ true = ap (λ (h : Holding). h.committed) (sym same) ∙ whole.2 in
       let tried = local.named done in
       ∥∥₁_map tried.1 (λ named.
-      subst (λ (d : D). WasNamed (job_paths job) bytes (logs.log d)) (sym has)
+      subst (λ (l : List DiskEvent). WasNamed (job_paths job) bytes l) (sym has)
       (subst (λ (p : Paths). WasNamed p bytes (logs.log last.part.disk)) is
       (subst (λ (l : List DiskEvent). WasNamed (paths_in local) bytes l) (sym (keeps.rests tried.0).1)
       (subst (λ (b : List ℕ). WasNamed (paths_in local) b (log_in local)) held named))))

@@ -1,23 +1,15 @@
 -- A get and a put that are complete: the law `some_transfers_are_complete` has them.
 use Rattle.tftp_client.proofs.Common.{rules, ◌≡◌, refl, ℕ, [], ◌∷◌, ◌++◌, Some, None, Ok, true, false, arith, inl, inr}
-use Rattle.tftp_client.proofs.Common.{◌∙◌, append-nil, subst}
-use Rattle.tftp_client.proofs.Common.{List, length, ap, sym, ◌*◌, true≢false, Octet, Ack, Data, Asked, Write}
-use Rattle.tftp_client.proofs.Common.{Files, Sink, Source, Endpoint, EndState, Complete, DatagramStep, Done, Turn}
-use Rattle.tftp_client.proofs.Common.{after_turn, committed_turn, data_bytes, response_turn, default_terms, Made}
-use Rattle.tftp_client.proofs.Common.{Removed, Linked, Folder_synced, calls_of, Refused, Found, Watch, IsStillAt}
-use Rattle.tftp_client.proofs.Common.{WasNamed, Written, Job, Converses, IsOpen, State, Begins}
-use Rattle.tftp_client.proofs.Common.{Receives, Answers, SocketEvent, begun, printed}
-use denote.RawPtr.{null_ptr}
+use Rattle.tftp_client.proofs.Common.{List, length, ap, sym, ◌*◌, true≢false, Octet, Ack, Data, Asked, Write, Files}
+use Rattle.tftp_client.proofs.Common.{Sink, Source, Endpoint, EndState, Complete, DatagramStep, Done, Turn, after_turn}
+use Rattle.tftp_client.proofs.Common.{committed_turn, data_bytes, response_turn, default_terms, Made, Removed, Linked}
+use Rattle.tftp_client.proofs.Common.{Folder_synced, calls_of, Refused, Found, Watch, IsStillAt, WasNamed, Written, Job}
+use Rattle.tftp_client.proofs.Common.{Converses, IsOpen, State, Begins, Receives, Answers, SocketEvent, begun, printed}
 use Rattle.std.specs.Prelude.{◌<◌, ◌^◌, pos, codes, IsUtf8}
-use Rattle.std.proofs.NetLemmas.Sockets.{read_socket_v4_sound}
-use Rattle.std.specs.Net.Grammar.{IsSocketV4Text}
-use Rattle.std.specs.Net.Reader.{read_ipv4, read_number, read_octet, read_port, read_socket_v4}
-use Rattle.std.specs.declared.net.socket_addr.SocketAddrV4.{SocketAddrV4}
 use Rattle.tftp_arguments.specs.Read.{IsFlag}
 use Rattle.std.proofs.lemmas.Bool.{ltb-true}
 use Rattle.std.specs.declared.alloc.Global.{Global}
 use Rattle.std.specs.declared.string.String.{String}
-use Rattle.std.specs.declared.vec.Vec.{Vec}
 use Rattle.clap.proofs.OnLiterals.{clap_on_literals}
 use Rattle.tftp_wire.specs.Spelling.{Spells}
 use Rattle.tftp_negotiate.specs.declared.known.Kind.TheVariants.{Read}
@@ -42,24 +34,11 @@ use Rattle.tftp_client.specs.OnDisk.{StoresWords}
 use Rattle.tftp_client.specs.Sent.{SendsWords}
 use Rattle.tftp_lines.specs.ClientOutcome.{end_text}
 use Rattle.tftp_lines.specs.declared.client_outcome.ClientOutcome.TheVariants as ends
-use Rattle.tftp_sockets.specs.Address.{Names}
+use Rattle.tftp_arguments.proofs.WitnessTexts.{text, vec}
+use Rattle.tftp_sockets.proofs.WitnessAddress.{its_name, server}
 use Rattle.tftp_client.specs.Words.{WordsName}
 use Rattle.tftp_client.specs.Witness.{Calls, Local, LocalSource, SomeAreSent, SomeAreStored, get_words}
 use Rattle.tftp_client.specs.Witness.{local_sink, local_source, put_words}
-
-abbrev pub vec : (bytes : List ℕ) → length bytes < 1000 → Vec ℕ Global
-vec bytes short = record {
-  ptr = null_ptr;
-  len = length bytes;
-  cap = length bytes;
-  alloc = record { memory = record { seal = tt } };
-  items = bytes;
-  ok = (refl, omega arith);
-  small = omega (arith, short);
-}
-
-abbrev pub text : (bytes : List ℕ) → length bytes < 1000 → IsUtf8 bytes → String Global
-text bytes short valid = record { bytes = vec bytes short; ok = ∣ valid ∣₁ }
 
 abbrev pub name : List ℕ
 name = codes "L"
@@ -77,9 +56,6 @@ valid_part = (part, (refl, refl))
 
 pub no_slash : HasNoSlash name
 no_slash = search rules
-
-abbrev pub server : Endpoint
-server = record { ip = 1 ∷ 2 ∷ 3 ∷ 4 ∷ []; port = 69 }
 
 abbrev pub answers_from : Endpoint
 answers_from = record { ip = 1 ∷ 2 ∷ 3 ∷ 4 ∷ []; port = 1024 }
@@ -111,17 +87,6 @@ set = grind arith
 
 pub left_out : IsFlag None false
 left_out = search rules
-
--- the server's address, as it is read
-pub its_name : Names (codes "1.2.3.4:69") (Some server)
-unfolding read_socket_v4 read_ipv4 read_octet read_number read_port
-its_name =
-    let address : SocketAddrV4 = record { ip = record { octets = server.ip }; port = server.port } in
-    let read = read_socket_v4_sound (codes "1.2.3.4:69") [] address refl in (
-      address,
-      subst (λ (text : List ℕ). IsSocketV4Text text address) (sym (read.1 ∙ append-nil read.0)) read.2,
-      record { ip = refl; port = refl },
-    )
 
 pub get_named : WordsName get_words get_job
 unfolding clap_on_literals

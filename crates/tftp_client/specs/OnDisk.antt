@@ -1,12 +1,12 @@
 -- The file of a job, by the calls of the system on it: of a complete one, and what one that failed
 -- leaves.
-use Rattle.std.specs.Prelude.{ℕ, ◌≡◌, ◌⊎◌, Bool, true, List, [], ◌++◌, Some}
+use Rattle.std.specs.Prelude.{ℕ, ◌≡◌, ◌⊎◌, Bool, true, List, [], ◌++◌, Some, Result, IfOk, IfErr}
 use Rattle.std.proofs.Common.{inl, inr}
 use Rattle.std.specs.declared.io.traits.Read as read
 use Rattle.std.specs.declared.io.traits.Write as write
 use Rattle.std.specs.declared.io.traits.Seek as seek
 use Rattle.tftp_negotiate.specs.declared.known.Kind.{Kind}
-use Rattle.tftp_negotiate.specs.declared.known.Kind.TheVariants.{Write}
+use Rattle.tftp_negotiate.specs.declared.known.Kind.TheVariants.{Read, Write}
 use Rattle.tftp_file.specs.Sink.{SinkMeaning}
 use Rattle.tftp_file.specs.Source.{SourceMeaning}
 use Rattle.tftp_file.specs.declared.files.Files.{Files}
@@ -22,11 +22,12 @@ use Rattle.tftp_lines.specs.declared.client_outcome.ClientOutcome.TheVariants as
 use Rattle.tftp_sockets.specs.Trace.{SocketEvent}
 use Rattle.tftp_client.specs.declared.local.LocalFile.{LocalFile}
 use Rattle.tftp_client.specs.declared.transfer.Job.{Job}
+use Rattle.tftp_client.specs.declared.transfer.failure.Failure.{Failure}
 use Rattle.tftp_client.specs.Converses.{Converses, State, WorksOnFile, most_waits}
-use Rattle.tftp_client.specs.Fetched.{AreOwn, KeepsPlace, Paths, WasNamed}
+use Rattle.tftp_client.specs.Fetched.{AreOwn, Keeps, KeepsPlace, Paths, WasNamed}
 use Rattle.tftp_client.specs.Moved.{nothing_moved, run_moves}
 use Rattle.tftp_client.specs.Ordered.{RunsOrder, RunsWords}
-use Rattle.tftp_client.specs.Runs.{DalliesTo, FailsBy, FailsEnd, FailsTransfer, StopsBy}
+use Rattle.tftp_client.specs.Runs.{CountsWaits, DalliesTo, FailsEnd, FailsTransfer, StopsBy}
 use Rattle.tftp_client.specs.Runs.{line_by, moved_by, plain, printed}
 use Rattle.tftp_client.specs.Stored.{count_of}
 use Rattle.tftp_client.specs.Written.{HasNoRest, IsLeftIn, IsWrittenAt, bytes_in, paths_for}
@@ -47,6 +48,11 @@ IsStored job bytes calls = ∥ WasNamed (job_paths job) bytes calls ∥₁
 pub record KeepsDisk (job : Job) (before after : List DiskEvent) : Type 0 where
   pub own : AreOwn (job_paths job) before → AreOwn (job_paths job) after
   pub put : job.kind ≡ Write → after ≡ before
+
+-- the same, as an end of this kind does it for a job
+abbrev pub KeepsAs : Kind → Job → List DiskEvent → List DiskEvent → Type 0
+KeepsAs Read job before after = Keeps (job_paths job) before after
+KeepsAs Write job before after = after ≡ before
 
 -- these bytes moved between the socket of a job and the disk, which has these calls: those of a
 -- received file are stored
@@ -134,6 +140,18 @@ module _ {S : Type 0} {D F V G : Type 0} {logs : looks.Ghosts D} {writes : write
         (printed (line_by status (count_of sent files)) last) files after files'
     pub kept : KeepsFile files files'
 
+  -- the run of an end from that state on went to that file, and reached its end or stopped, as the
+  -- result says; so many waits are left to the program
+  pub record RunsTo (dallies : Bool) (most left port : ℕ) (first : State)
+      (file : Files S (LocalFile D F V G logs writes views reads seeks)) (sent : ℕ)
+      (after : List SocketEvent)
+      (files' : Files S (LocalFile D F V G logs writes views reads seeks))
+      (ended : Result ℕ Failure) : Type 0 where
+    pub ok : IfOk ended (λ status. Reaches status dallies most port first file sent after files')
+    pub err : IfErr ended (λ failure. StopsOut most port first file after files' failure.end)
+    pub keeps : KeepsFile file files'
+    pub counts : CountsWaits most left ended after
+
   -- what moved in the run of a failed end is left, and the disk has these calls
   abbrev pub EndLeaves : (most : ℕ) (kind : Kind) (job : Job) (length : ℕ)
       (before after : List SocketEvent) (calls : List DiskEvent) (end : ClientOutcome)
@@ -145,18 +163,11 @@ module _ {S : Type 0} {D F V G : Type 0} {logs : looks.Ghosts D} {writes : write
   EndLeaves most kind job length before after calls _ failed = Unit {0}
 
   -- the run of an end of this kind stopped, or was not opened, and what moved is left
-  abbrev pub LeavesEnd : ℕ → Kind → Job → ℕ → List SocketEvent → List SocketEvent
-      → List DiskEvent → ClientOutcome → Type 0
-  LeavesEnd most kind job length before after calls end =
-      (failed : FailsEnd sources sinks most kind job length before after end)
-      × EndLeaves most kind job length before after calls end failed
-
-  -- the same of a job
-  abbrev pub LeavesBy : ℕ → Job → List SocketEvent → List SocketEvent → List DiskEvent
+  abbrev pub LeavesBy : ℕ → Kind → Job → List SocketEvent → List SocketEvent → List DiskEvent
       → ClientOutcome → Type 0
-  LeavesBy most job before after calls end =
-      (failed : FailsBy sources sinks most job before after end)
-      × EndLeaves most job.kind job failed.0 before after calls end failed.1
+  LeavesBy most kind job before after calls end =
+      (failed : (length : ℕ) × FailsEnd sources sinks most kind job length before after end)
+      × EndLeaves most kind job failed.0 before after calls end failed.1
 
   -- what moved in the last run of a failed job is left
   abbrev pub TransferLeaves : (most : ℕ) (job : Job) (before after : List SocketEvent)

@@ -1,5 +1,5 @@
 -- What was sent of a file on the disk, by the calls of the system on it.
-use Rattle.std.specs.Prelude.{ℕ, ◌≡◌, ◌⊎◌, true, List, length, Some}
+use Rattle.std.specs.Prelude.{ℕ, ◌≡◌, ◌⊎◌, true, List, length, Some, Result, IfOk, IfErr}
 use Rattle.std.proofs.Common.{inl, inr}
 use Rattle.std.specs.declared.io.traits.Read as read
 use Rattle.std.specs.declared.io.traits.Write as write
@@ -22,12 +22,13 @@ use Rattle.tftp_disk.specs.declared.disk_source.DiskSource.{DiskSource}
 use Rattle.tftp_sockets.specs.Trace.{SocketEvent}
 use Rattle.tftp_client.specs.declared.local.LocalFile.{LocalFile}
 use Rattle.tftp_client.specs.declared.transfer.Job.{Job}
+use Rattle.tftp_client.specs.declared.transfer.failure.Failure.{Failure}
 use Rattle.tftp_client.specs.Converses.{State}
 use Rattle.tftp_client.specs.Moved.{nothing_moved, run_moves}
-use Rattle.tftp_client.specs.OnDisk.{IsOnDisk, KeepsDisk, OrderOnDisk, WordsOnDisk}
+use Rattle.tftp_client.specs.OnDisk.{IsOnDisk, KeepsAs, KeepsDisk, LeavesBy, OrderOnDisk, WordsOnDisk}
 use Rattle.tftp_client.specs.Ordered.{RunsOrder, RunsWords}
 use Rattle.tftp_client.specs.Outbound.{HasLength}
-use Rattle.tftp_client.specs.Runs.{Dallies, HasDallied, RunsAs, Transfers, line_by, moved_by, printed}
+use Rattle.tftp_client.specs.Runs.{CountsWaits, Dallies, HasDallied, RunsAs, Transfers, line_by, moved_by, printed}
 
 module _ {F : Type 0} where
   -- a file to send in this mode, as it was opened at the path: nothing was read of it since, or
@@ -90,11 +91,11 @@ module _ {F K : Type 0} (sources : SourceMeaning (DiskSource F)) (sinks : SinkMe
       (transfers : Transfers sources sinks most port job before s files count)
       × BeginsFor transfers
 
-  -- the run of an end of this kind, as a job opens it, from the file of the job on, is complete;
-  -- then its line was printed, with N of the file, or refused, as the status says, and the client
-  -- went on
+  -- the run of an end of this kind, as a job opens it, from the file of the job on, is complete,
+  -- and what moved in it is on the disk, which has these calls; then its line was printed, with N
+  -- of the file, or refused, as the status says, and the client went on
   pub record Concludes (status most : ℕ) (kind : Kind) (job : Job) (before after : List SocketEvent)
-      : Type 0 where
+      (calls : List DiskEvent) : Type 0 where
     pub port : ℕ
     pub last : State
     pub files : Files (DiskSource F) K
@@ -102,19 +103,14 @@ module _ {F K : Type 0} (sources : SourceMeaning (DiskSource F)) (sinks : SinkMe
     pub ends : (status ≡ 0) ⊎ (status ≡ 2)
     pub run : RunsFor port kind job before last files count
     pub complete : is_complete last.end.position.phase ≡ true
+    pub stored : IsOnDisk job files (run_moves run.0.runs.converses nothing_moved).bytes calls
     pub stays : Dallies sources sinks port (printed (line_by status count) last) files after
     pub over : HasDallied sources sinks job.dallies most (printed (line_by status count) last)
         stays.last after
 
-  -- the same, and what moved in it is on the disk, which has these calls
-  abbrev pub EndStores : ℕ → ℕ → Kind → Job → List SocketEvent → List SocketEvent
-      → List DiskEvent → Type 0
-  EndStores status most kind job before after calls =
-      (done : Concludes status most kind job before after)
-      × IsOnDisk job done.files (run_moves done.run.0.runs.converses nothing_moved).bytes calls
-
   -- the same of a job, which may have been run without its options, once these were refused
-  pub record Finishes (status most : ℕ) (job : Job) (before after : List SocketEvent) : Type 0 where
+  pub record Finishes (status most : ℕ) (job : Job) (before after : List SocketEvent)
+      (calls : List DiskEvent) : Type 0 where
     pub port : ℕ
     pub last : State
     pub files : Files (DiskSource F) K
@@ -122,15 +118,10 @@ module _ {F K : Type 0} (sources : SourceMeaning (DiskSource F)) (sinks : SinkMe
     pub ends : (status ≡ 0) ⊎ (status ≡ 2)
     pub transfers : TransfersFor most port job before last files count
     pub complete : is_complete last.end.position.phase ≡ true
+    pub stored : IsOnDisk job files (moved_by sources sinks transfers.0).bytes calls
     pub stays : Dallies sources sinks port (printed (line_by status count) last) files after
     pub over : HasDallied sources sinks job.dallies most (printed (line_by status count) last)
         stays.last after
-
-  abbrev pub JobStores : ℕ → ℕ → Job → List SocketEvent → List SocketEvent → List DiskEvent
-      → Type 0
-  JobStores status most job before after calls =
-      (done : Finishes status most job before after)
-      × IsOnDisk job done.files (moved_by sources sinks done.transfers.0).bytes calls
 
   -- what moved in the run of a complete put was read of its file
   abbrev pub OrderSent : (job : Job) (status : ℕ) (before after : List SocketEvent)
@@ -176,6 +167,17 @@ module _ {D F V G : Type 0} {logs : looks.Ghosts D} {writes : write.Ghosts F}
     {views : looks.Ghosts V} {reads : read.Ghosts G} {seeks : seek.Ghosts G}
     (sources : SourceMeaning (DiskSource G))
     (sinks : SinkMeaning (LocalFile D F V G logs writes views reads seeks)) where
+  -- one run of a job, by an end of this kind, between these calls of the disk: it is complete, or it
+  -- stopped or was not opened, as the result says. Of so many waits so many are left to the program
+  pub record RunsOnce (most left : ℕ) (kind : Kind) (job : Job) (ended : Result ℕ Failure)
+      (before after : List SocketEvent) (calls calls' : List DiskEvent) : Type 0 where
+    pub ok : IfOk ended
+        (λ status. Concludes sources sinks status most kind job before after calls')
+    pub err : IfErr ended
+        (λ failure. LeavesBy sources sinks most kind job before after calls' failure.end)
+    pub keeps : KeepsAs kind job calls calls'
+    pub counts : CountsWaits most left ended after
+
   -- a job was run, between these calls of the disk: what moved in a complete run is on the disk, or
   -- came from it, and no other file was changed
   abbrev pub DoesOrder : Job → ℕ → List SocketEvent → List SocketEvent → List DiskEvent

@@ -6,28 +6,21 @@ mod conversation;
 mod failure;
 mod notes;
 
-ghost use Rattle.std.specs.Prelude.{ℕ, ◌≡◌, ◌≤◌, ◌+◌, ◌↔◌, IfOk, IfErr, IsTrue, List, false};
+ghost use Rattle.std.specs.Prelude.{◌≡◌, ◌≤◌, ◌+◌, ◌↔◌, IfOk, IfErr, IsTrue, false};
 ghost use Rattle.tftp_negotiate.specs.declared.known.Kind.TheVariants.{Read, Write};
-ghost use Rattle.tftp_disk.specs.DiskSource.{source_calls};
-ghost use Rattle.tftp_disk.specs.DiskTrace.{DiskEvent};
 ghost use Rattle.tftp_ends.specs.End.{is_complete};
 ghost use Rattle.tftp_ends.specs.Files.{AreFilesOf};
 ghost use Rattle.tftp_lines.specs.declared.client_outcome.ClientOutcome.TheVariants as ends;
 ghost use Rattle.tftp_sockets.specs.Quiet.{waits as waits_in};
 ghost use Rattle.tftp_client.specs.Conversation.{IsReady, state_of};
 ghost use Rattle.tftp_client.specs.Converses.{IsOpen};
-ghost use Rattle.tftp_client.specs.Fetched.{Keeps};
-ghost use Rattle.tftp_client.specs.OnDisk.{IsOut, KeepsDisk, KeepsFile, LeavesBy, LeavesEnd};
-ghost use Rattle.tftp_client.specs.OnDisk.{LeavesTransfer, Reaches, StopsOut, WritesOut, job_paths};
-ghost use Rattle.tftp_client.specs.Outbound.{HasLength};
-ghost use Rattle.tftp_client.specs.Sent.{Concludes, EndStores, IsOpenedAt, JobStores};
+ghost use Rattle.tftp_client.specs.OnDisk.{IsOut, KeepsDisk, LeavesTransfer, RunsTo, WritesOut};
+ghost use Rattle.tftp_client.specs.Sent.{Finishes, RunsOnce};
 ghost use Rattle.tftp_client.specs.Stored.{HasDisk, IsReceived, count_of, stored};
-ghost use Rattle.tftp_client.specs.Taken.{nothing};
-ghost use Rattle.tftp_client.specs.Written.{held_of, paths_of};
-ghost use Rattle.tftp_client.specs.Runs.{CountsWaits, MayFallBack, plain};
+ghost use Rattle.tftp_client.specs.Runs.{MayFallBack, plain};
 
 use crate::cause::Cause;
-use crate::local::{FileOf, LocalFile, SourceOf, read_error};
+use crate::local::{LocalFile, SourceOf, read_error};
 use crate::outbound::Outbound;
 use crate::part_file::Place;
 use crate::transfer::asking::{ask_to_get, ask_to_put};
@@ -100,7 +93,7 @@ pub(crate) fn transfer<E: Eprint, N: ClientUdp, D: Disk>(
     disk: D,
     waits: &mut u32,
 ) -> (Result<u8, Failure>, D)
-    ensures ok { IfOk result.0 (λ status. JobStores
+    ensures ok { IfOk result.0 (λ status. Finishes
         ⟦<SourceOf<D> as Source>⟧.meaning ⟦<LocalFile<D> as Sink>⟧.meaning status
         (waits.old + waits_in (N.log net.old)) job.now (N.log net.old) (N.log net.new)
         (D.log result.1)) }
@@ -155,17 +148,9 @@ fn transfer_once<E: Eprint, N: ClientUdp, D: Disk>(
     disk: D,
     waits: &mut u32,
 ) -> (Result<u8, Failure>, D)
-    ensures ok { IfOk result.0 (λ status. EndStores
-        ⟦<SourceOf<D> as Source>⟧.meaning ⟦<LocalFile<D> as Sink>⟧.meaning status
-        (waits.old + waits_in (N.log net.old)) job.now.kind job.now
-        (N.log net.old) (N.log net.new) (D.log result.1)) }
-    ensures err { IfErr result.0 (λ failure. LeavesBy
-        ⟦<SourceOf<D> as Source>⟧.meaning ⟦<LocalFile<D> as Sink>⟧.meaning
-        (waits.old + waits_in (N.log net.old)) job.now (N.log net.old) (N.log net.new)
-        (D.log result.1) failure.end) }
-    ensures keeps { KeepsDisk job.now (D.log disk) (D.log result.1) }
-    ensures counts { CountsWaits (waits.old + waits_in (N.log net.old)) waits.new result.0
-        (N.log net.new) }
+    ensures { RunsOnce ⟦<SourceOf<D> as Source>⟧.meaning ⟦<LocalFile<D> as Sink>⟧.meaning
+        (waits.old + waits_in (N.log net.old)) waits.new job.now.kind job.now result.0
+        (N.log net.old) (N.log net.new) (D.log disk) (D.log result.1) }
 {
     match job.kind {
         Kind::Read => get(rt, net, alloc, job, disk, waits),
@@ -185,50 +170,15 @@ fn get<E: Eprint, N: ClientUdp, D: Disk>(
     mut disk: D,
     waits: &mut u32,
 ) -> (Result<u8, Failure>, D)
-    ensures ok { IfOk result.0 (λ status. EndStores
-        ⟦<SourceOf<D> as Source>⟧.meaning ⟦<LocalFile<D> as Sink>⟧.meaning status
-        (waits.old + waits_in (N.log net.old)) Read job.now
-        (N.log net.old) (N.log net.new) (D.log result.1)) }
-    ensures err { IfErr result.0 (λ failure. LeavesEnd
-        ⟦<SourceOf<D> as Source>⟧.meaning ⟦<LocalFile<D> as Sink>⟧.meaning
-        (waits.old + waits_in (N.log net.old)) Read job.now 0 (N.log net.old) (N.log net.new)
-        (D.log result.1) failure.end) }
-    ensures keeps { Keeps (job_paths job.now) (D.log disk) (D.log result.1) }
-    ensures counts { CountsWaits (waits.old + waits_in (N.log net.old)) waits.new result.0
-        (N.log net.new) }
+    ensures { RunsOnce ⟦<SourceOf<D> as Source>⟧.meaning ⟦<LocalFile<D> as Sink>⟧.meaning
+        (waits.old + waits_in (N.log net.old)) waits.new Read job.now result.0
+        (N.log net.old) (N.log net.new) (D.log disk) (D.log result.1) }
 {
-    match Place::of(&mut disk, alloc, job.local, job.existing) {
-        Ok(place) => {
-            let local = LocalFile::new(disk, alloc, place);
-            get_into(rt, net, alloc, job, local, waits)
-        }
-        Err(error) => (Err(Failure::of_file(error)), disk),
-    }
-}
-
-/// Fetches a file into the local file, which is new, and returns the disk of that.
-fn get_into<E: Eprint, N: ClientUdp, D: Disk>(
-    rt: &E,
-    net: &mut N,
-    alloc: Global,
-    job: &Job<'_>,
-    local: LocalFile<D>,
-    waits: &mut u32,
-) -> (Result<u8, Failure>, D)
-    requires empty { held_of local.part.written local.committed ≡ nothing }
-    requires paths { paths_of local.part.names local.part.existing ≡ job_paths job.now }
-    ensures ok { IfOk result.0 (λ status. EndStores
-        ⟦<SourceOf<D> as Source>⟧.meaning ⟦<LocalFile<D> as Sink>⟧.meaning status
-        (waits.old + waits_in (N.log net.old)) Read job.now
-        (N.log net.old) (N.log net.new) (D.log result.1)) }
-    ensures err { IfErr result.0 (λ failure. LeavesEnd
-        ⟦<SourceOf<D> as Source>⟧.meaning ⟦<LocalFile<D> as Sink>⟧.meaning
-        (waits.old + waits_in (N.log net.old)) Read job.now 0 (N.log net.old) (N.log net.new)
-        (D.log result.1) failure.end) }
-    ensures keeps { Keeps (job_paths job.now) (D.log local.part.disk) (D.log result.1) }
-    ensures counts { CountsWaits (waits.old + waits_in (N.log net.old)) waits.new result.0
-        (N.log net.new) }
-{
+    let place = match Place::of(&mut disk, alloc, job.local, job.existing) {
+        Ok(place) => place,
+        Err(error) => return (Err(Failure::of_file(error)), disk),
+    };
+    let local = LocalFile::new(disk, alloc, place);
     let conversation = match ask_to_get(net, alloc, job) {
         Ok(conversation) => conversation,
         Err(failure) => return (Err(failure), local.into_disk()),
@@ -258,46 +208,14 @@ fn put<E: Eprint, N: ClientUdp, D: Disk>(
     disk: &D,
     waits: &mut u32,
 ) -> Result<u8, Failure>
-    ensures ok { IfOk result (λ status. Concludes
-        ⟦<SourceOf<D> as Source>⟧.meaning ⟦<LocalFile<D> as Sink>⟧.meaning status
-        (waits.old + waits_in (N.log net.old)) Write job.now
-        (N.log net.old) (N.log net.new)) }
-    ensures err { IfErr result (λ failure. (length : ℕ) × LeavesEnd
-        ⟦<SourceOf<D> as Source>⟧.meaning ⟦<LocalFile<D> as Sink>⟧.meaning
-        (waits.old + waits_in (N.log net.old)) Write job.now length
-        (N.log net.old) (N.log net.new) (D.log disk.now) failure.end) }
-    ensures counts { CountsWaits (waits.old + waits_in (N.log net.old)) waits.new result
-        (N.log net.new) }
+    ensures { RunsOnce ⟦<SourceOf<D> as Source>⟧.meaning ⟦<LocalFile<D> as Sink>⟧.meaning
+        (waits.old + waits_in (N.log net.old)) waits.new Write job.now result
+        (N.log net.old) (N.log net.new) (D.log disk.now) (D.log disk.now) }
 {
-    match Outbound::open(&mut disk.view(), alloc, job.local, job.mode) {
-        Ok(outbound) => put_from::<E, N, D>(rt, net, alloc, job, outbound, waits),
-        Err(error) => Err(Failure::of_file(error)),
-    }
-}
-
-/// Sends the local file.
-fn put_from<E: Eprint, N: ClientUdp, D: Disk>(
-    rt: &E,
-    net: &mut N,
-    alloc: Global,
-    job: &Job<'_>,
-    outbound: Outbound<FileOf<D>>,
-    waits: &mut u32,
-) -> Result<u8, Failure>
-    requires opened { IsOpenedAt job.now.local.now job.now.mode outbound.source }
-    requires long { outbound.length.wire_bytes ≤ MAX_WIRE → HasLength job.now.mode
-        outbound.length.bytes outbound.length.wire_bytes (source_calls outbound.source) }
-    ensures ok { IfOk result (λ status. Concludes
-        ⟦<SourceOf<D> as Source>⟧.meaning ⟦<LocalFile<D> as Sink>⟧.meaning status
-        (waits.old + waits_in (N.log net.old)) Write job.now
-        (N.log net.old) (N.log net.new)) }
-    ensures err { IfErr result (λ failure. (calls : List DiskEvent) → LeavesEnd
-        ⟦<SourceOf<D> as Source>⟧.meaning ⟦<LocalFile<D> as Sink>⟧.meaning
-        (waits.old + waits_in (N.log net.old)) Write job.now outbound.length.wire_bytes
-        (N.log net.old) (N.log net.new) calls failure.end) }
-    ensures counts { CountsWaits (waits.old + waits_in (N.log net.old)) waits.new result
-        (N.log net.new) }
-{
+    let outbound = match Outbound::open(&mut disk.view(), alloc, job.local, job.mode) {
+        Ok(outbound) => outbound,
+        Err(error) => return Err(Failure::of_file(error)),
+    };
     match ask_to_put(net, alloc, job, outbound.length.wire_bytes) {
         Ok(conversation) => {
             let mut files: Files<SourceOf<D>, LocalFile<D>> = Files::Source(outbound.source);
@@ -323,17 +241,9 @@ fn converse<E: Eprint, N: ClientUdp, D: Disk>(
     requires not_closed { IsOpen conversation.end }
     requires incomplete { is_complete conversation.end.position.phase ≡ false }
     requires ready { IsReady conversation }
-    ensures ok { IfOk result (λ status. Reaches
-        ⟦<SourceOf<D> as Source>⟧.meaning ⟦<LocalFile<D> as Sink>⟧.meaning status
-        job.now.dallies (waits.old + waits_in (N.log net.old)) conversation.socket.port
-        (state_of conversation (N.log net.old)) files.old sent (N.log net.new) files.new) }
-    ensures err { IfErr result (λ failure. StopsOut
-        ⟦<SourceOf<D> as Source>⟧.meaning ⟦<LocalFile<D> as Sink>⟧.meaning
-        (waits.old + waits_in (N.log net.old)) conversation.socket.port
-        (state_of conversation (N.log net.old)) files.old (N.log net.new) files.new failure.end) }
-    ensures keeps { KeepsFile files.old files.new }
-    ensures counts { CountsWaits (waits.old + waits_in (N.log net.old)) waits.new result
-        (N.log net.new) }
+    ensures { RunsTo ⟦<SourceOf<D> as Source>⟧.meaning ⟦<LocalFile<D> as Sink>⟧.meaning
+        job.now.dallies (waits.old + waits_in (N.log net.old)) waits.new conversation.socket.port
+        (state_of conversation (N.log net.old)) files.old sent (N.log net.new) files.new result }
 {
     let ended = conversation.run(rt, net, files, waits);
     conversation.finish(rt, stored(files));

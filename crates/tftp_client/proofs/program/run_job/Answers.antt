@@ -8,8 +8,7 @@ use Rattle.tftp_client.proofs.program.run_job.Goals as goal
 
 pub returns-in-Ok-clause-runs : goal.returns-in-Ok-clause-runs
 returns-in-Ok-clause-runs g c =
-    let stored = rw c.in-Ok.is at c.transfer-ended.ensures.ok in
-    let done = stored.0 in (
+    let done = rw c.in-Ok.is at c.transfer-ended.ensures.ok in (
       inl (
         done.ends,
         record {
@@ -28,7 +27,7 @@ returns-in-Ok-clause-runs g c =
           within = omega (arith, c.transfer-ended.ensures.within);
         },
       ),
-      stored.1,
+      done.stored,
       c.transfer-ended.ensures.keeps,
       was_read _ _ c.gives_in_order.ensures done.transfers.0 done.transfers.1 done.complete,
     )

@@ -10,45 +10,45 @@ use Rattle.tftp_client.proofs.transfer.converse.Goals as goal
 pub conclude-requires-clause-ready : goal.conclude-requires-clause-ready
 conclude-requires-clause-ready g c = c.in-Ok.ensures.ready
 
-pub returns-in-Ok-clause-ok : goal.returns-in-Ok-clause-ok
-returns-in-Ok-clause-ok g c =
+pub returns-in-Ok : goal.returns-in-Ok
+returns-in-Ok g c =
     let last = state_of c.run-ended.new.self (g.N.Udp.log c.run-ended.new.net) in
     record {
-      ends = c.conclude.ensures.ends;
-      last = last;
-      files = c.run-ended.new.files;
-      converses = c.run-ended.ensures.converses;
-      complete = c.in-Ok.ensures.complete;
-      stays =
-          goes_on _ _ c.run-ended.ensures.counted c.run-ended.ensures.port (ap (λ (n : ℕ). printed (line_by
-          c.conclude.result n) last) c.count_of-count.ensures) c.conclude.ensures.goes;
-      kept = search (rules, kept);
+      ok =
+          record {
+            ends = c.conclude.ensures.ends;
+            last = last;
+            files = c.run-ended.new.files;
+            converses = c.run-ended.ensures.converses;
+            complete = c.in-Ok.ensures.complete;
+            stays =
+                goes_on _ _ c.run-ended.ensures.counted c.run-ended.ensures.port (ap (λ (n : ℕ). printed (line_by
+                c.conclude.result n) last) c.count_of-count.ensures) c.conclude.ensures.goes;
+            kept = search (rules, kept);
+          };
+      err = tt;
+      keeps = search (rules, kept_then, kept);
+      counts = search rules;
     }
 
-pub returns-in-Ok-clause-keeps : goal.returns-in-Ok-clause-keeps
-returns-in-Ok-clause-keeps g c = search (rules, kept_then, kept)
-
-pub returns-in-Ok-clause-counts : goal.returns-in-Ok-clause-counts
-returns-in-Ok-clause-counts g c = search rules
-
-pub returns-in-Err-clause-err : goal.returns-in-Err-clause-err
-returns-in-Err-clause-err g c = (
-  c.in-Err.outcome,
-  c.failed.ensures,
-  record {
-    last = state_of c.run-ended.new.self (g.N.Udp.log c.run-ended.new.net);
-    files = c.write_out.new.files;
-    converses = written_out _ _ c.write_out.new.files c.write_out.ensures.works c.run-ended.ensures.converses;
-    events = refl;
-    incomplete = c.in-Err.ensures.incomplete;
-    ends = c.in-Err.ensures.failed;
-  },
-  refl,
-  c.write_out.ensures.out,
-)
-
-pub returns-in-Err-clause-keeps : goal.returns-in-Err-clause-keeps
-returns-in-Err-clause-keeps g c = search (rules, kept, written_out)
-
-pub returns-in-Err-clause-counts : goal.returns-in-Err-clause-counts
-returns-in-Err-clause-counts g c = search rules
+pub returns-in-Err : goal.returns-in-Err
+returns-in-Err g c =
+    record {
+      ok = tt;
+      err = (
+        c.in-Err.outcome,
+        c.failed.ensures,
+        record {
+          last = state_of c.run-ended.new.self (g.N.Udp.log c.run-ended.new.net);
+          files = c.write_out.new.files;
+          converses = written_out _ _ c.write_out.new.files c.write_out.ensures.works c.run-ended.ensures.converses;
+          events = refl;
+          incomplete = c.in-Err.ensures.incomplete;
+          ends = c.in-Err.ensures.failed;
+        },
+        refl,
+        c.write_out.ensures.out,
+      );
+      keeps = search (rules, kept, written_out);
+      counts = search rules;
+    }
