@@ -54,11 +54,6 @@ module _ {B G H W F D : Type 0} {log : B → List DiskEvent} {start : List DiskE
   serves_words words (Run config) names asks (inr serves) same is = inr (config, names, serves)
   serves_words words (Exit n) names asks runs same is = inl (same, λ zero. inl (asks (sym is ∙ zero)))
 
-  -- nothing was done, with a status of 2
-  pub done_nothing : (words : List (List ℕ)) {status : ℕ} → after ≡ before → status ≡ 2
-      → ServesWords log start meaning sources words status before after
-  done_nothing words same two = inl (same, λ zero. absurd (omega arith))
-
 -- what was done from one history on was done from another that is the same
 pub from_same : {B G H W F D : Type 0} {log : B → List DiskEvent} {start : List DiskEvent}
     {meaning : StoreMeaning (FolderStore B G H W) D} {sources : SourceMeaning F} {config : DaemonConfig} {status : ℕ}

@@ -10,16 +10,14 @@ use Rattle.tftp_file.specs.Source.{SourceMeaning}
 use Rattle.tftp_file.specs.declared.fault.StoreFault.{StoreFault}
 use Rattle.tftp_disk.specs.DiskTrace.{DiskEvent}
 use Rattle.tftp_server.specs.State.{TransferState, draft_of}
-use Rattle.tftp_loop.specs.Steps.{LoopState}
 use Rattle.tftp_folder.specs.Begin.{IsDraftOf}
 use Rattle.tftp_folder.specs.Draft.{BeginsAt, SameNames}
 use Rattle.tftp_folder.specs.Effects.{folder_meaning, drafts_of}
-use Rattle.tftp_folder.specs.Uploads.{path_below}
 use Rattle.tftp_folder.specs.declared.folder_draft.FolderDraft.{FolderDraft}
 use Rattle.tftp_folder.specs.declared.folder_store.FolderStore.{FolderStore}
-use Rattle.tftp_daemon.specs.DraftPorts.{EachDraftHasItsPort, HoldsAt, NoTwoShareADraft}
+use Rattle.tftp_daemon.specs.DraftPorts.{EachDraftHasItsPort, NoTwoShareADraft}
 use Rattle.tftp_daemon.proofs.HeldAtPorts.{AllAt, one_at}
-use Rattle.tftp_daemon.proofs.Keeping.{CallsKeepAt, OfServer, run_keeps_at}
+use Rattle.tftp_daemon.proofs.Keeping.{CallsKeepAt, run_keeps_at}
 
 -- the folder of drafts of a store, and the name of a draft in it
 abbrev HasFolder : {D G H W : Type 0} → List ℕ → FolderStore D G H W → Type 0

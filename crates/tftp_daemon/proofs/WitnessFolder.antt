@@ -9,7 +9,6 @@ use Rattle.std.proofs.lemmas.Fmt.{IsAscii-decimal, length-decimal-le}
 use Rattle.std.proofs.lemmas.Str.{IsUtf8-append, IsUtf8-from_ascii}
 use Rattle.std.specs.declared.alloc.Global.{Global}
 use Rattle.std.specs.declared.string.String.{String}
-use Rattle.std.specs.declared.vec.Vec.{Vec}
 use Rattle.tftp_wire.specs.declared.mode.Mode.TheVariants.{Octet, Netascii}
 use Rattle.tftp_disk.specs.DiskTrace.{made_at, modes_asked, state_of, sync_failed}
 use Rattle.tftp_disk.specs.DiskWriter.{calls_of}
@@ -33,23 +32,10 @@ use Rattle.tftp_folder.specs.Inside.{StaysInside}
 use Rattle.tftp_folder.specs.Source.{OpensSource}
 use Rattle.tftp_disk.specs.DiskSource.{GivesPiece}
 use Rattle.std.specs.String.{string_bytes}
+use Rattle.tftp_arguments.proofs.WitnessTexts.{text, vec}
 use Rattle.tftp_daemon.specs.Witness.{Calls, Draft, Source, Store, its_calls, read_name, root, write_name}
 
 -- ---- texts
-abbrev pub vec : (bytes : List ℕ) → length bytes < 1000 → Vec ℕ Global
-vec bytes short = record {
-  ptr = null_ptr;
-  len = length bytes;
-  cap = length bytes;
-  alloc = record { memory = record { seal = tt } };
-  items = bytes;
-  ok = (refl, omega arith);
-  small = omega (arith, short);
-}
-
-abbrev pub text : (bytes : List ℕ) → length bytes < 1000 → IsUtf8 bytes → String Global
-text bytes short valid = record { bytes = vec bytes short; ok = ∣ valid ∣₁ }
-
 abbrev pub path : List ℕ
 path = root ++ 47 ∷ read_name
 

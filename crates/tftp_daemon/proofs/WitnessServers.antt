@@ -1,12 +1,8 @@
 -- Runs of two servers over such a store, one that gives a file and one that stores one: the law `some_servers_serve`.
-use Rattle.std.proofs.Common.{◌∙◌, append-nil, subst}
-use Rattle.std.proofs.Common.{rules, ◌≡◌, ◌<◌, ◌≤◌, refl, ℕ, Bool, [], ◌∷◌, Some, None, Ok, Err, true, false, arith, inl, inr, List, length, sym}
-use Rattle.std.specs.Prelude.{◌*◌, ◌^◌, codes, slice_index_or, slice_set, ⊤}
+use Rattle.std.proofs.Common.{rules, ◌≡◌, ◌<◌, refl, ℕ, Bool, [], ◌∷◌, Some, None, Ok, Err, true, false, arith, inl}
+use Rattle.std.proofs.Common.{inr, List, length, sym}
+use Rattle.std.specs.Prelude.{◌*◌, ◌^◌, codes}
 use Rattle.std.proofs.lemmas.Bool.{ltb-true, true≢false}
-use Rattle.std.proofs.NetLemmas.Sockets.{read_socket_v4_sound}
-use Rattle.std.specs.Net.Grammar.{IsSocketV4Text}
-use Rattle.std.specs.Net.Reader.{read_ipv4, read_number, read_octet, read_port, read_socket_v4}
-use Rattle.std.specs.declared.net.socket_addr.SocketAddrV4.{SocketAddrV4}
 use Rattle.clap.proofs.OnLiterals.{clap_on_literals}
 use denote.RawPtr.{null_ptr}
 use Rattle.tftp_wire.specs.Spelling.{Spells, canonical}
@@ -17,43 +13,38 @@ use Rattle.tftp_negotiate.specs.Negotiation.{occurrences_of}
 use Rattle.tftp_negotiate.specs.Options.{name_of}
 use Rattle.tftp_negotiate.specs.Ranges.{IsBlockSize}
 use Rattle.tftp_negotiate.specs.declared.asked.Asked.{Asked}
-use Rattle.tftp_file.specs.declared.files.Files.{Files}
 use Rattle.tftp_file.specs.declared.files.Files.TheVariants.{Source as A_source, Sink}
 use Rattle.tftp_file.specs.declared.fault.StoreFault.TheVariants.{Memory}
 use Rattle.tftp_ends.specs.declared.backoff.Backoff.TheVariants.{Constant}
 use Rattle.tftp_ends.specs.declared.endpoint.Endpoint.{Endpoint}
 use Rattle.tftp_ends.specs.declared.action.Response.TheVariants.{Complete}
 use Rattle.tftp_ends.specs.declared.outcome.Outcome.TheVariants as outcomes
-use Rattle.tftp_ends.specs.declared.outgoing.Outgoing.{Outgoing}
 use Rattle.tftp_ends.specs.declared.outgoing.Outgoing.TheVariants.{Nothing, LastSent}
 use Rattle.tftp_ends.specs.End.{EndState, record_of}
-use Rattle.tftp_ends.specs.Files.{AreSame}
 use Rattle.tftp_ends.specs.Opening.{MayGet, MayPut, request_of, serving_read, serving_write}
-use Rattle.tftp_ends.specs.Step.{Done, Turn, ack_bytes, after_turn, committed_turn, data_bytes, lent, reply_bytes, reported}
-use Rattle.tftp_ends.specs.Step.{response_turn}
+use Rattle.tftp_ends.specs.Step.{Done, Turn, ack_bytes, after_turn, committed_turn, data_bytes, response_turn}
 use Rattle.tftp_ends.specs.Waiting.{default_terms}
-use Rattle.tftp_server.specs.Draft.{KeepsStore, files_in}
+use Rattle.tftp_server.specs.Draft.{files_in}
 use Rattle.tftp_server.specs.Request.{A_transfer, AsksToRead, AsksToWrite, left_by}
-use Rattle.tftp_server.specs.State.{ServerState, TransferState, at, is_closed, with_next}
+use Rattle.tftp_server.specs.State.{ServerState, TransferState, at}
 use Rattle.tftp_server.specs.Steps.{StepIn}
 use Rattle.tftp_server.specs.declared.config.Config.{Config}
 use Rattle.tftp_lines.specs.Printed.{line_text}
 use Rattle.tftp_lines.specs.declared.printed.Printed.TheVariants.{Closed}
-use Rattle.tftp_sockets.specs.Address.{Names}
 use Rattle.tftp_sockets.specs.Bound.{IsBoundTo}
-use Rattle.tftp_sockets.specs.Trace.{SocketEvent, answered}
+use Rattle.tftp_sockets.specs.Trace.{SocketEvent}
 use Rattle.tftp_sockets.specs.Trace.SocketEvent.{Printed, Quiet, Received, Sent}
 use Rattle.tftp_sockets.specs.Trace.QuietEvent.{No_reader}
 use Rattle.tftp_sockets.specs.Watch.{last_moment}
 use Rattle.tftp_loop.specs.Run.{Run}
 use Rattle.tftp_loop.specs.Run.Run.{Start, Then}
-use Rattle.tftp_loop.specs.Steps.{LoopState, LoopStep, PortState, Timer, at_start, most_in_round, timer_after}
-use Rattle.tftp_loop.specs.Steps.PortStep.{A_datagram}
-use Rattle.tftp_loop.specs.Steps.LoopStep.{At_port, Request_answered, Request_received, Transfer_closed}
+use Rattle.tftp_loop.specs.Steps.{LoopState, LoopStep, Timer, at_start}
+use Rattle.tftp_loop.specs.Steps.LoopStep.{Request_answered, Request_received, Transfer_closed}
 use Rattle.tftp_loop.specs.WholeRun.{Bound, listening}
 use Rattle.tftp_loop.specs.declared.serving.LoopConfig.{LoopConfig}
 use Rattle.tftp_loop.specs.declared.serving.LoopFault.TheVariants.{NoReader}
-use Rattle.tftp_folder.specs.Settings.{AsksNothing}
+use Rattle.tftp_loop.proofs.WitnessPort.{handles}
+use Rattle.tftp_sockets.proofs.WitnessAddress.{its_name, server}
 use Rattle.tftp_daemon.specs.CommandLine.EndsAs.{After as Ends_after}
 use Rattle.tftp_daemon.specs.CommandLine.{IsOfSeveral}
 use Rattle.tftp_daemon.specs.Configured.{IsServerOf, ServesWords, service_at}
@@ -65,9 +56,6 @@ use Rattle.tftp_daemon.proofs.WitnessFolder.{appends, begins, begun, commits, dr
 use Rattle.tftp_daemon.proofs.WitnessFolder.{read, stays_inside, store, whole}
 
 -- ---- the arguments
-abbrev pub server : Endpoint
-server = record { ip = 1 ∷ 2 ∷ 3 ∷ 4 ∷ []; port = 69 }
-
 abbrev pub limits : Config
 limits = record { limits = record { max_block = 512; max_file = 1000 }; retries = 1; cap = 2; overwrite = false }
 
@@ -106,17 +94,6 @@ config = record {
 is_one : IsOfSeveral config → ⊥
 is_one (inl many) = absurd (omega (arith, many))
 is_one (inr others) = others refl
-
--- the server's address, as it is read
-pub its_name : Names (codes "1.2.3.4:69") (Some server)
-unfolding read_socket_v4 read_ipv4 read_octet read_number read_port
-its_name =
-    let address : SocketAddrV4 = record { ip = record { octets = server.ip }; port = server.port } in
-    let read = read_socket_v4_sound (codes "1.2.3.4:69") [] address refl in (
-      address,
-      subst (λ (text : List ℕ). IsSocketV4Text text address) (sym (read.1 ∙ append-nil read.0)) read.2,
-      record { ip = refl; port = refl },
-    )
 
 pub configured : WordsConfigure words config
 unfolding clap_on_literals
@@ -292,12 +269,6 @@ reads_file = record {
   });
 }
 
-pub same_store : AsksNothing its_calls store store
-same_store = record {
-  settings = record { read_only = refl; uploads = refl; root = refl; drafts = refl };
-  calls = refl;
-}
-
 unfoldable pub opens_read : Step g1 g2
 unfolding occurrences_of name_of answered_option
 opens_read = Request_answered (record {
@@ -323,71 +294,6 @@ opens_read = Request_answered (record {
   };
   is = refl;
 })
-
--- a transfer at this index of the timers handles a datagram by this turn, with this file and this store after it
-module _ (old : Loop) (index : ℕ) (timer : Timer) (transfer : Held) (from : Endpoint) (bytes : List ℕ) (turn : Turn)
-    (outgoing : Outgoing) (its_store : Store) (files : Files Source Draft) where
-  abbrev pub handled : Held
-  handled = record transfer { end = after_turn transfer.end turn; files = files }
-
-  abbrev pub port_after : PortState Store Source Draft
-  port_after = record {
-    server = record old.server { store = its_store; held = with_next timer.port handled old.server.held };
-    timer = timer_after old.now (reported transfer.end turn).progress timer;
-    events = answered timer.port turn.reply (Received timer.port from bytes ∷ old.events);
-  }
-
-  unfoldable pub handles : old.now ≤ timer.age_limit → timer.received < most_in_round → index < length old.timers → timer ≡ slice_index_or old.timers index timer →
-      at timer.port old.server.held ≡ Some transfer → is_closed transfer ≡ false →
-      StepIn stores sources from bytes transfer.end
-      (files_in old.server.store transfer.path old.server.config.overwrite transfer.files) turn
-      (files_in its_store transfer.path old.server.config.overwrite files) →
-      lent outgoing (after_turn transfer.end turn) ≡ reply_bytes turn.reply →
-      KeepsStore transfer.files old.server.store its_store →
-      AreSame (λ (a b : Source). ⊤) (λ (a b : Draft). ⊤) transfer.files files →
-      Step old (record old {
-        server = port_after.server;
-        timers = slice_set old.timers index port_after.timer;
-        events = port_after.events;
-      })
-  handles in_time few within is_timer found still steps lends stays kind = At_port (record {
-    index = index;
-    timer = timer;
-    within = within;
-    is_timer = is_timer;
-    next = port_after;
-    does = A_datagram (record {
-      few = few;
-      in_time = in_time;
-      from = from;
-      bytes = bytes;
-      step = reported transfer.end turn;
-      handles = record {
-        outgoing = outgoing;
-        takes = record {
-          transfer = transfer;
-          next = handled;
-          found = found;
-          still = still;
-          takes = record {
-            turn = turn;
-            steps = steps;
-            carries = record { state = refl; goes = refl; bytes = lends };
-            reports = refl;
-            stays = stays;
-            kind = kind;
-            path = refl;
-            request = refl;
-          };
-          held = refl;
-        };
-        config = refl;
-        events = refl;
-      };
-      timer = refl;
-    });
-    is = refl;
-  })
 
 -- the block is acknowledged, and the transfer closes
 pub is_acknowledged : StepIn stores sources getter (ack_bytes 1) reading (A_source read) completes (A_source read)

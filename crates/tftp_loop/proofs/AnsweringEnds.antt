@@ -1,43 +1,26 @@
 -- What a step of a server's end sends, and to whom.
 -- For Reflecting and Leaving.
-use Rattle.tftp_loop.proofs.Common.{◌≡◌, ◌≤◌, ◌+◌, ◌&&◌, not, ◌⊎◌, ℕ, Bool, true, false, List, Option, Some, None, refl}
-use Rattle.tftp_loop.proofs.Common.{sym, ap, ◌∙◌, inl, inr, if◌then◌else◌, nat_lt, ⊤, true≢false, has_error_opcode}
-use Rattle.tftp_loop.proofs.Common.{Mode, Packet, SourceMeaning, SinkMeaning, Files, Source, datagram_action, EndState}
-use Rattle.tftp_loop.proofs.Common.{Position, Acts, DatagramStep, Reply, Turn, response_turn, timeout_turn, Action}
-use Rattle.tftp_loop.proofs.Common.{Respond, Send, Store, Response, Retransmit, Close, Endpoint, Fresh, Phase, Waiting}
-use Rattle.tftp_loop.proofs.Common.{Sending, Receiving, Dallying, Closed, Terms, An_ack, A_block}
-use Rattle.std.proofs.Common.{eqb-true}
-use Rattle.std.specs.Prelude.{◌==◌, ◌/◌, is_none, length}
-use Rattle.std.specs.Cmp.Lexicographic.{same_text}
-use Rattle.std.proofs.lemmas.Bool.{not-false}
+use Rattle.tftp_loop.proofs.Common.{◌≡◌, ◌≤◌, ◌&&◌, ◌⊎◌, ℕ, Bool, true, false, List, Option, Some, None, refl, ap, ◌∙◌}
+use Rattle.tftp_loop.proofs.Common.{inl, inr, if◌then◌else◌, nat_lt, ⊤, has_error_opcode, Mode, Packet, SourceMeaning}
+use Rattle.tftp_loop.proofs.Common.{SinkMeaning, Files, Source, datagram_action, EndState, Position, Acts, DatagramStep}
+use Rattle.tftp_loop.proofs.Common.{Reply, Turn, response_turn, timeout_turn, Action, Respond, Send, Store, Response}
+use Rattle.tftp_loop.proofs.Common.{Retransmit, Close, Endpoint, Fresh, Phase, Waiting, Sending, Receiving, Dallying}
+use Rattle.tftp_loop.proofs.Common.{Closed, Terms, An_ack, A_block}
+use Rattle.std.proofs.Common.{rules}
+use Rattle.std.specs.Prelude.{◌==◌, is_none, length}
 use Rattle.tftp_wire.specs.declared.packet.Packet.TheVariants as packets
-use Rattle.tftp_ends.specs.Action.{garbled_response, is_wrong_peer, packet_action, same_address}
-use Rattle.tftp_ends.specs.Action.{same_endpoint, timeout_response}
-use Rattle.tftp_ends.specs.End.{is_client, terms_of}
+use Rattle.tftp_ends.specs.Action.{garbled_response, is_wrong_peer, packet_action, timeout_response}
+use Rattle.tftp_ends.specs.End.{terms_of}
 use Rattle.tftp_ends.specs.Phase.{waited}
 use Rattle.tftp_ends.specs.Receiver.{dally_response, next_action, receiver_action}
 use Rattle.tftp_ends.specs.Sender.{sender_action}
-use Rattle.tftp_ends.specs.Step.{after, data_bytes, holding, reply_at}
+use Rattle.tftp_ends.specs.Step.{after, holding, reply_at}
 use Rattle.tftp_ends.specs.Text.{is_readable}
 use Rattle.tftp_ends.specs.declared.action.Response.TheVariants.{Ignore, WrongPeer, ResendReply, Wait}
 use Rattle.tftp_ends.specs.declared.action.Response.TheVariants.{Refuse, Accept, Complete as Completes}
 use Rattle.tftp_ends.specs.declared.error_reply.ErrorReply.TheVariants as replies
-use Rattle.tftp_ends.specs.declared.phase.Dally.TheVariants.{Waited}
 use Rattle.tftp_loop.specs.Leaving.{IsSaid, An_error}
 use Rattle.tftp_loop.proofs.EndSteps.{Acknowledges, Gives, Gives_up, Makes, Responds, acts_make}
-
--- ---- endpoints that are equal by the test
-both : (a b : Bool) → (a && b) ≡ true → (a ≡ true) × (b ≡ true)
-both true b e = (refl, e)
-both false b e = absurd (true≢false (sym e))
-
-endpoint_from : (a b : Endpoint) → a.ip ≡ b.ip → a.port ≡ b.port → a ≡ b
-endpoint_from a b ip port = λ i. record { ip = ip i; port = port i }
-
-same_as : (a b : Endpoint) → same_endpoint a b ≡ true → b ≡ a
-same_as a b e =
-    let h = both (same_address a b) (a.port == b.port) e in
-    sym (endpoint_from a b (same_text a.ip b.ip (sym h.0)) (eqb-true a.port b.port h.1))
 
 -- what holds of both cases of a test
 pub either : {A : Type 0} (P : A → Type 0) (b : Bool) {one two : A} → P one → P two → P (if b then one else two)
@@ -78,12 +61,7 @@ module _ (Fits : ℕ → Type 0) where
   module _ (peer : Endpoint) where
     sender_for : (client : Bool) (count : ℕ) (terms : Terms) (n : ℕ) (decoded : Option Packet)
         → (terms.peer ≡ peer) × Fits terms.size → ActsFor peer (sender_action client count terms n decoded)
-    sender_for client count terms n (Some (packets.Ack acked)) is =
-        either (ActsFor peer) (acked == n) (either (ActsFor peer) (nat_lt n (count / terms.size + 1)) is tt)
-        (either (ActsFor peer) (nat_lt acked n) tt tt)
-    sender_for client count terms n (Some (packets.Oack options)) is =
-        either (ActsFor peer) (client && terms.by_oack) tt tt
-    sender_for client count terms n decoded is = tt
+    sender_for client count terms n decoded is = search rules
 
     next_for : (mode : Mode) (held : List ℕ) (terms : Terms) (n : ℕ) (piece : List ℕ) → terms.peer ≡ peer
         → ActsFor peer (next_action mode held terms n piece)
@@ -94,16 +72,10 @@ module _ (Fits : ℕ → Type 0) where
 
     receiver_for : (client : Bool) (mode : Mode) (held : List ℕ) (terms : Terms) (n : ℕ) (decoded : Option Packet)
         → terms.peer ≡ peer → ActsFor peer (receiver_action client mode held terms n decoded)
-    receiver_for client mode held terms n (Some (packets.Data number piece)) is =
-        either (ActsFor peer) (number == n) tt (either (ActsFor peer) (nat_lt number n) tt
-        (either (ActsFor peer) (number == n + 1) (next_for mode held terms number piece is) tt))
-    receiver_for client mode held terms n (Some (packets.Oack options)) is =
-        either (ActsFor peer) (client && terms.by_oack) (either (ActsFor peer) (n == 0) tt tt) tt
-    receiver_for client mode held terms n decoded is = tt
+    receiver_for client mode held terms n decoded is = search (rules, either, nat_lt, next_for)
 
     dally_for : (n : ℕ) (decoded : Option Packet) → RespondsTo peer (dally_response n decoded)
-    dally_for n (Some (packets.Data number piece)) = either (RespondsTo peer) (number == n) tt tt
-    dally_for n decoded = tt
+    dally_for n decoded = search rules
 
     garbled_for : (phase : Phase) → RespondsTo peer (garbled_response phase)
     garbled_for (Waiting asked limit) = tt
@@ -111,13 +83,7 @@ module _ (Fits : ℕ → Type 0) where
 
     packet_for : (e : EndState) (from : Endpoint) (decoded : Option Packet) (phase : Phase) → IsWith peer phase
         → ActsFor peer (packet_action e from decoded phase)
-    packet_for e from decoded (Waiting asked limit) is = absurd is
-    packet_for e from decoded (Sending terms n) is =
-        sender_for (is_client e.role.side) e.role.length terms n decoded is
-    packet_for e from decoded (Receiving terms n) is =
-        receiver_for (is_client e.role.side) e.role.mode e.position.held_back terms n decoded is
-    packet_for e from decoded (Dallying terms n dally) is = dally_for n decoded
-    packet_for e from decoded (Closed terms n complete outcome) is = tt
+    packet_for e from decoded phase is = search (rules, sender_for, receiver_for, dally_for)
 
   -- ---- whom a test of the peer admits
   -- the action is that of a datagram of a third party, which has no effect, or of a closed end; or the datagram is of
@@ -131,35 +97,23 @@ module _ (Fits : ℕ → Type 0) where
       → (wrong ≡ false → Handles peer from (Respond response)) → (wrong ≡ false → Handles peer from action)
       → Handles peer from (if wrong then (if error then Respond Ignore else Respond WrongPeer)
       else if garbled then Respond response else action)
-  by_tests peer from true true garbled response action h k = Ignored refl
-  by_tests peer from true false garbled response action h k = Refused refl
-  by_tests peer from false error true response action h k = h refl
-  by_tests peer from false error false response action h k = k refl
+  by_tests peer from wrong error garbled response action h k = search rules
 
   module _ (peer from : Endpoint) where
-    of_peer : (terms : Terms) → terms.peer ≡ peer → not (same_endpoint terms.peer from) ≡ false → from ≡ peer
-    of_peer terms is same = same_as terms.peer from (not-false (same_endpoint terms.peer from) same) ∙ is
-
     -- a datagram that passes the test of the peer
     passes : (e : EndState) (decoded : Option Packet) (phase : Phase) (action : Action) → IsWith peer phase
         → (action ≡ Respond (garbled_response phase)) ⊎ (action ≡ packet_action e from decoded phase)
         → ActsFor peer action → is_wrong_peer (terms_of phase) e.position.last_sent_to from ≡ false
         → Handles peer from action
-    passes e decoded (Waiting asked limit) action is which for test = absurd is
-    passes e decoded (Sending terms n) action is which for test = Taken (of_peer terms is.0 test) for
-    passes e decoded (Receiving terms n) action is which for test = Taken (of_peer terms is test) for
-    passes e decoded (Dallying terms n dally) action is which for test = Taken (of_peer terms is test) for
-    passes e decoded (Closed terms n complete outcome) action is (inl which) for test = Ignored which
-    passes e decoded (Closed terms n complete outcome) action is (inr which) for test = Ignored which
+    passes e decoded phase action is chosen for test = search rules
 
     handles : (e : EndState) (bytes : List ℕ) (decoded : Option Packet) → IsWith peer e.position.phase
         → Handles peer from (datagram_action e from bytes decoded)
     handles e bytes decoded is =
         let phase = e.position.phase in
-        by_tests peer from (is_wrong_peer (terms_of phase) e.position.last_sent_to from) (has_error_opcode bytes)
-        (has_error_opcode bytes && is_none decoded) (garbled_response phase) (packet_action e from decoded phase)
-        (passes e decoded phase (Respond (garbled_response phase)) is (inl refl) (garbled_for peer phase))
-        (passes e decoded phase (packet_action e from decoded phase) is (inr refl) (packet_for peer e from decoded phase is))
+        by_tests _ _ _ (has_error_opcode bytes) (has_error_opcode bytes && is_none decoded) _ _ (passes e decoded phase
+        (Respond (garbled_response phase)) is (inl refl) (garbled_for peer phase)) (passes e decoded phase
+        (packet_action e from decoded phase) is (inr refl) (packet_for peer e from decoded phase is))
 
   -- ---- what is sent
   module _ (IsGiven : List ℕ → Type 0) where
@@ -210,19 +164,16 @@ module _ (Fits : ℕ → Type 0) where
 
     with_peer_in : (peer : Endpoint) (terms : Terms) (number : ℕ) (phase : Phase) → terms.peer ≡ peer
         → (phase ≡ Receiving terms number) ⊎ (phase ≡ Dallying terms number Fresh) → IsWith peer phase
-    with_peer_in peer terms number phase is (inl receives) = rw receives is
-    with_peer_in peer terms number phase is (inr dallies) = rw dallies is
+    with_peer_in peer terms number phase is one = search rules
 
     module _ {S K : Type 0} {sources : SourceMeaning S} {from : Endpoint} {e : EndState} {turn : Turn} {action : Action}
         {files files' : Files S K} where
       acts_so : IsAt from e.position → ActsFor from action → GivesOnly sources files files'
           → Makes sources from e turn action files files' → Answers from turn
-      acts_so at for gives (Responds response acts is) =
-          rw is (responds from e at response (rw acts at for))
+      acts_so at for gives (Responds response acts is) = rw is (responds from e at response (rw acts at for))
       acts_so at for gives (Gives terms number source source' piece acts was now gave long is) =
           let own : (terms.peer ≡ from) × Fits terms.size = rw acts at for in
-          let said : IsSaid IsGiven (data_bytes number piece) =
-          A_block number piece refl (gives source source' piece terms.size was now gave own.1 long) in
+          let said = A_block number piece refl (gives source source' piece terms.size was now gave own.1 long) in
           rw is (record { sends = (refl, said); position = record { to = refl; with_peer = own; said = said } })
       acts_so at for gives (Acknowledges terms number held phase acts which is) =
           let own : terms.peer ≡ from = rw acts at for in
@@ -235,8 +186,8 @@ module _ (Fits : ℕ → Type 0) where
             };
           })
       acts_so at for gives (Gives_up terms reply outcome held is) =
-          rw is (responds from (holding held e) (entered from e at _ _ _ at.with_peer)
-          (Refuse (Some terms) reply outcome) tt)
+          rw is (responds from (holding held e) (entered from e at _ _ _ at.with_peer) (Refuse (Some terms) reply
+          outcome) tt)
 
     -- ---- a datagram
     -- its sender is answered by an ERROR or not at all, and nothing changes; or it is the peer
@@ -259,8 +210,7 @@ module _ (Fits : ℕ → Type 0) where
       action_so action at gives h (Refused is) =
           other_so from e turn WrongPeer (rw is at h).0 refl (refl, An_error replies.UnknownTransferId refl)
       action_so action at gives h (Taken is for) =
-          To_peer is
-          (acts_so (rw is at) (rw is for) gives (acts_make sources sinks from bytes e turn action files files' h))
+          To_peer is (acts_so (rw is at) (rw is for) gives (acts_make _ _ _ _ e _ _ _ _ h))
 
     module _ {S K : Type 0} {sources : SourceMeaning S} {sinks : SinkMeaning K} {from : Endpoint} {bytes : List ℕ}
         {e : EndState} {turn : Turn} {files files' : Files S K} where
@@ -274,12 +224,8 @@ module _ (Fits : ℕ → Type 0) where
 
     -- ---- a timeout
     timeout_for : (peer : Endpoint) (left : ℕ) (phase : Phase) → RespondsTo peer (timeout_response left phase)
-    timeout_for peer left (Dallying terms number Fresh) = tt
-    timeout_for peer left (Dallying terms number Waited) = tt
-    timeout_for peer left phase = either (RespondsTo peer) (left == 0) tt tt
+    timeout_for peer left phase = search rules
 
     pub timeout_answers : (e : EndState) → IsAt e.position.last_sent_to e.position
         → Answers e.position.last_sent_to (timeout_turn e)
-    timeout_answers e at =
-        responds e.position.last_sent_to e at (timeout_response e.position.retries_left e.position.phase)
-        (timeout_for e.position.last_sent_to e.position.retries_left e.position.phase)
+    timeout_answers e at = search (rules, responds, timeout_for)

@@ -1,5 +1,6 @@
 -- In each state of a run a deadline is a wait away at most, and no end has more than its retries. For Expiring
 -- and PortCounts.
+use Rattle.std.proofs.Common.{rules}
 use Rattle.tftp_loop.proofs.Common.{arith, ◌≡◌, ◌<◌, ℕ, true, false, List, [], length, Option, Some, None, IsSome, refl}
 use Rattle.tftp_loop.proofs.Common.{sym, ap, subst, ◌∙◌, All, slice_index_or, slice_set, swap_remove, same_Some}
 use Rattle.tftp_loop.proofs.Common.{SourceMeaning, Endpoint, StoreMeaning, Ask, Came, Nothing, Error_reply, A_transfer}
@@ -9,11 +10,10 @@ use Rattle.tftp_loop.proofs.Common.{At_port, Request_answered, Clock_read, Store
 use Rattle.tftp_loop.proofs.Common.{after_request, All-push}
 use Rattle.tftp_loop.proofs.LoopStays.{removed_all, replaced_all, other_port, some_none}
 use Rattle.tftp_loop.proofs.PortEnds.{HasLimit, HasSpent, IsNear, at_transfer, changes_limit, changes_near}
-use Rattle.tftp_loop.proofs.PortEnds.{changes_spent, expiring_near, same_config, same_timer, set_near}
-use Rattle.tftp_loop.proofs.EndSteps.{most_left}
+use Rattle.tftp_loop.proofs.PortEnds.{changes_spent, expiring_near, same_config, set_near}
 use Rattle.tftp_loop.proofs.PortStays.{stays_at}
 use Rattle.tftp_loop.proofs.OpenedEnds.{OpensIn, opens_begins, opens_for}
-use Rattle.tftp_loop.proofs.Sleeping.{kept_along, step_kept}
+use Rattle.tftp_loop.proofs.Sleeping.{step_kept}
 use Rattle.tftp_loop.proofs.Tables.{inserted_apart, inserted_own, removed_apart}
 use Rattle.tftp_loop.proofs.Waits.{all_waited}
 use Rattle.tftp_loop.proofs.NewStates.{answer_is, state_is}
@@ -36,11 +36,7 @@ module _ {S F D : Type 0} (meaning : StoreMeaning S D) (sources : SourceMeaning 
   -- what is at the port of a timer is as it was
   same_bounded : (old new : ServerState S F D) (now : ℕ) (timer : Timer) → new.config ≡ old.config
       → at timer.port new.held ≡ at timer.port old.held → IsBounded old now timer → IsBounded new now timer
-  same_bounded old new now timer config same bounded = record {
-    near = bounded.near;
-    limit = λ transfer found. rw config (bounded.limit transfer (sym same ∙ found));
-    spent = λ transfer found. rw config (bounded.spent transfer (sym same ∙ found));
-  }
+  same_bounded old new now timer config same bounded = search rules
 
   abbrev AreBounded : LoopState S F D → Type 0
   AreBounded s = All (IsBounded s.server s.now) s.timers
@@ -52,23 +48,18 @@ module _ {S F D : Type 0} (meaning : StoreMeaning S D) (sources : SourceMeaning 
   set_bounded s index timer next within is does kept bounded =
       let stays = stays_at meaning sources s.now (port_state s timer) next does in
       let config = same_config does in
-      let own : IsBounded s.server s.now timer = subst (IsBounded s.server s.now) (sym is)
-      (bounded index timer within) in
-      let some = some_at (at timer.port s.server.held)
-      (subst (λ (t : Timer). IsSome (at t.port s.server.held)) (sym is) (kept.each index timer within).there) in
+      let own : IsBounded s.server s.now timer = subst (IsBounded s.server s.now) (sym is) (bounded index timer within)
+      in
+      let some = some_at (at timer.port s.server.held) (subst (λ (t : Timer). IsSome (at t.port s.server.held)) (sym is)
+      (kept.each index timer within).there) in
       let changed = at_transfer meaning sources s.now (port_state s timer) next does some.0 some.1 in
       let limit = changes_limit changed.changes s.server.config.retries (own.limit some.0 some.1) in
       let spent = changes_spent changed.changes s.server.config.retries limit (own.spent some.0 some.1) in
-      let here : (transfer : TransferState F D) → at next.timer.port next.server.held ≡ Some transfer
-      → changed.next ≡ transfer =
-      λ transfer found. same_Some changed.next transfer
-      (sym changed.found ∙ (ap (λ (p : ℕ). at p next.server.held) (sym (same_timer does).port) ∙ found)) in
-      replaced_all (IsBounded next.server s.now) s.timers index next.timer within
-      (λ k d h apart.
-      same_bounded s.server next.server s.now (slice_index_or s.timers k d) config
-      (stays.held.others (slice_index_or s.timers k d).port
-      (other_port s.timers index timer k d kept.apart within is h apart)) (bounded k d h))
-      (record {
+      let here : (transfer : TransferState F D) → at next.timer.port next.server.held ≡ Some transfer → changed.next ≡
+      transfer = search rules in
+      replaced_all (IsBounded next.server s.now) s.timers index next.timer within (λ k d h apart.
+      same_bounded s.server next.server s.now (slice_index_or s.timers k d) config (stays.held.others (slice_index_or
+      s.timers k d).port (other_port s.timers index timer k d kept.apart within is h apart)) (bounded k d h)) (record {
         near = changes_near changed.changes own.near;
         limit = λ transfer found. rw (config, ← here transfer found) limit;
         spent = λ transfer found. rw (config, ← here transfer found) spent;
@@ -79,29 +70,21 @@ module _ {S F D : Type 0} (meaning : StoreMeaning S D) (sources : SourceMeaning 
       → AreKept s.server.held s.timers → AreBounded s → AreBounded (after_request s from (left_by came s.server from tid))
   opened_bounded s from bytes tid ask Nothing free opens kept bounded = bounded
   opened_bounded s from bytes tid ask (Error_reply reply store) free opens kept bounded =
-      λ k d h. same_bounded s.server (record s.server { store = store }) s.now (slice_index_or s.timers k d) refl refl
-      (bounded k d h)
+      λ k d h. same_bounded _ _ _ _ refl refl (bounded k d h)
   opened_bounded s from bytes tid ask (A_transfer transfer store) free opens kept bounded =
       let old = s.server in
       let new : ServerState S F D = record old { store = store; held = with_new tid transfer old.held } in
       let timer = started s.now s.longest s.backoff tid from (interval_at (at tid (with_new tid transfer old.held))) in
       let own = inserted_own tid transfer old.held in
       let limit = (opens_begins meaning sources old from bytes opens).limit in
-      All-push (IsBounded new s.now) s.timers timer
-      (λ k d h.
+      All-push (IsBounded new s.now) s.timers timer (λ k d h.
       let t = slice_index_or s.timers k d in
-      let apart : t.port ≡ tid → ⊥ = λ e. some_none (at t.port old.held) (kept.each k d h).there
-      (ap (λ (p : ℕ). at p old.held) e ∙ free) in
-      same_bounded old new s.now t refl (inserted_apart tid t.port apart transfer old.held) (bounded k d h))
-      (record {
+      let apart : t.port ≡ tid → ⊥ = λ e. some_none (at t.port old.held) (kept.each k d h).there (ap (λ p. at p
+      old.held) e ∙ free) in
+      same_bounded old new s.now t refl (inserted_apart tid t.port apart transfer old.held) (bounded k d h)) (record {
         near = expiring_near s.now 0 timer;
         limit = λ held found. rw (← same_Some transfer held (sym own ∙ found)) limit;
-        spent = λ held found. rw (← same_Some transfer held (sym own ∙ found))
-            (omega (
-              arith,
-              most_left transfer.end.position.phase transfer.end.position.retries_left old.config.retries
-                  limit.left,
-            ));
+        spent = search rules;
       })
 
   removed_bounded : (old : ServerState S F D) (now : ℕ) (timers : List Timer) (index : ℕ) (timer : Timer)
@@ -157,12 +140,6 @@ module _ {S F D : Type 0} (meaning : StoreMeaning S D) (sources : SourceMeaning 
   -- each state of a run is sound
   pub sound_along : (start s : LoopState S F D) → start.timers ≡ []
       → Run (LoopStep meaning sources) start s → IsSound s
-  sound_along start s empty Start =
-      let none : length start.timers ≡ 0 = ap (λ (ts : List Timer). length ts) empty in
-      record { kept = kept_along meaning sources start start empty Start; bounded = λ k d h. absurd (omega (arith, h, none)) }
+  sound_along start s empty Start = search rules
   sound_along start s empty (Then {middle} run does) =
-      let was = sound_along start middle empty run in
-      record {
-        kept = step_kept meaning sources middle s does was.kept;
-        bounded = step_bounded middle s does was.kept was.bounded;
-      }
+      search (rules, step_kept, step_bounded, sound_along start middle empty run)

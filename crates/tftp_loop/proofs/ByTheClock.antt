@@ -1,50 +1,20 @@
 -- The time of a server, by the readings of its clock. For `a_server_closes_by_the_clock`.
-use Rattle.tftp_loop.proofs.Common.{arith, ap, ◌≡◌, ◌≤◌, ◌<◌, ◌+◌, ◌-◌, min, max, ℕ, Bool, true, false, refl}
-use Rattle.tftp_loop.proofs.Common.{if◌then◌else◌, SourceMeaning, StoreMeaning, last_moment, Watch, Run, Start, Then}
-use Rattle.tftp_loop.proofs.Common.{LoopState, LoopStep, Timer, LONGEST_WAIT, round_end, Waited, Clock_read}
-use Rattle.tftp_loop.specs.Steps.{IsReadBy}
+use Rattle.std.proofs.Common.{rules}
+use Rattle.tftp_loop.proofs.Common.{arith, ◌≤◌, ◌<◌, ◌+◌, ◌-◌, ℕ, SourceMeaning, StoreMeaning, Run, Start, Then}
+use Rattle.tftp_loop.proofs.Common.{LoopState, LoopStep, Timer}
 use Rattle.tftp_loop.specs.Expiry.{Idles, closing_time, counted_from}
 use Rattle.tftp_loop.specs.Expiry.Idles.{At_first, After}
 use Rattle.tftp_loop.specs.Seconds.{ClosesByTheClock, ClosesOverAgeByTheClock, PassesWithTheClock, TimesOutByTheClock}
-use Rattle.tftp_loop.specs.Seconds.{cut_along, cut_by, cut_in, cut_of}
+use Rattle.tftp_loop.specs.Seconds.{cut_along, cut_by, cut_in}
 use Rattle.tftp_loop.proofs.Expiring.{closes_over_age, closes_without_progress, times_out_in_silence}
-use Rattle.tftp_loop.proofs.NewStates.{state_is}
 
 -- the time advances as much as the clock, but for what a round does not count
 abbrev Passes : {S F D : Type 0} → LoopState S F D → LoopState S F D → ℕ → Type 0
 Passes old new cut = new.reading + old.now ≤ old.reading + new.now + cut
 
-read_passes : {S F D : Type 0} (old : LoopState S F D) (watch : Watch) → IsReadBy old watch
-    → watch.reading + old.now ≤ old.reading + watch.now + cut_of old watch
-read_passes old watch by =
-    let end = round_end old.now old.limit in
-    let is : end ≡ min old.limit (min (old.now + 1000) last_moment) = refl in
-    let time : watch.now ≡ min (min (old.now + (watch.reading - old.reading)) last_moment) (max end old.now) = by.time in
-    let cut : cut_of old watch ≡ (old.now + (watch.reading - old.reading)) - end = refl in
-    omega (arith, is, time, cut)
-
 module _ {S F D : Type 0} (meaning : StoreMeaning S D) (sources : SourceMeaning F) where
   step_passes : (s t : LoopState S F D) (does : LoopStep meaning sources s t) → Passes s t (cut_by meaning sources does)
-  step_passes s t (Waited d) =
-      omega (
-        arith,
-        ap (λ (u : LoopState S F D). u.now) d.is,
-        ap (λ (u : LoopState S F D). u.reading) d.is,
-        read_passes s d.watch d.by,
-      )
-  step_passes s t (Clock_read d) =
-      omega (
-        arith,
-        ap (λ (u : LoopState S F D). u.now) d.is,
-        ap (λ (u : LoopState S F D). u.reading) d.is,
-        read_passes s d.watch d.by,
-      )
-  step_passes s t does =
-      omega (
-        arith,
-        ap (λ (u : LoopState S F D). u.now) (state_is does),
-        ap (λ (u : LoopState S F D). u.reading) (state_is does),
-      )
+  step_passes s t does = search rules
 
   passes : {port : ℕ} {first last : LoopState S F D} (idles : Idles meaning sources port first last)
       → Passes first last (cut_in meaning sources idles)
@@ -58,19 +28,13 @@ module _ {S F D : Type 0} (meaning : StoreMeaning S D) (sources : SourceMeaning 
   passes_along {last = last} (Then {middle} run does) =
       omega (arith, passes_along run, step_passes middle last does)
 
-counted_as : (provisional : Bool) (reading now : ℕ) → (if provisional then reading + LONGEST_WAIT else reading) + now
-    ≡ (if provisional then now + LONGEST_WAIT else now) + reading
-counted_as true reading now = omega arith
-counted_as false reading now = omega arith
-
 -- what is later by the clock is later by the watch
 later_by_now : {S F D : Type 0} (first last : LoopState S F D) (timer : Timer) (cut : ℕ)
     → closing_time (counted_from first.reading timer) timer.backoff timer.interval first.server.config.retries + cut
     < last.reading
     → Passes first last cut
     → closing_time (counted_from first.now timer) timer.backoff timer.interval first.server.config.retries < last.now
-later_by_now first last timer cut late passed =
-    omega (arith, late, passed, counted_as timer.provisional first.reading first.now)
+later_by_now first last timer cut late passed = search rules
 
 module _ {S F D : Type 0} (meaning : StoreMeaning S D) (sources : SourceMeaning F) where
   -- `closes_without_progress`, with times that the clock was read at

@@ -1,13 +1,12 @@
 -- How many datagrams are received at a port. For `a_server_receives_few_between_waits`, PortCounts and Visits.
-use Rattle.tftp_loop.proofs.Common.{arith, ◌≡◌, ◌≤◌, ◌+◌, ℕ, [], refl, sym, ap, subst, ◌∙◌, All, SourceMeaning}
-use Rattle.tftp_loop.proofs.Common.{StoreMeaning, Run, Start, Then, Timer, PortState, LoopState, PortStep, LoopStep}
-use Rattle.tftp_loop.proofs.Common.{most_in_round, port_state, Waited, At_port, Request_answered, Transfer_closed}
-use Rattle.tftp_loop.proofs.Common.{A_datagram, A_lost_datagram, A_late_datagram}
+use Rattle.std.proofs.Common.{rules}
+use Rattle.tftp_loop.proofs.Common.{arith, ◌≡◌, ◌≤◌, ◌+◌, ℕ, [], refl, sym, subst, All, SourceMeaning, StoreMeaning}
+use Rattle.tftp_loop.proofs.Common.{Run, Start, Then, Timer, PortState, LoopState, PortStep, LoopStep, most_in_round}
+use Rattle.tftp_loop.proofs.Common.{port_state, Waited, At_port, Request_answered, Transfer_closed}
 use Rattle.tftp_loop.specs.Fair.{received_in}
 use Rattle.tftp_loop.proofs.LoopStays.{all_opened, if_any, removed_all, replaced_all}
-use Rattle.tftp_loop.proofs.PortStays.{after_received}
 use Rattle.tftp_loop.proofs.Waits.{all_waited}
-use Rattle.tftp_loop.proofs.NewStates.{same_noted, state_is, timer_is}
+use Rattle.tftp_loop.proofs.NewStates.{state_is}
 
 module _ {S F D : Type 0} (meaning : StoreMeaning S D) (sources : SourceMeaning F) where
   -- each datagram is counted once
@@ -15,18 +14,7 @@ module _ {S F D : Type 0} (meaning : StoreMeaning S D) (sources : SourceMeaning 
   Counts s t = t.timer.received + received_in s.events ≡ s.timer.received + received_in t.events
 
   counts : (now : ℕ) (s t : PortState S F D) → PortStep meaning sources now s t → Counts s t
-  counts now s t (A_datagram d) =
-      omega (
-        arith,
-        ap (λ (u : Timer). u.received) d.timer ∙ after_received now d.step.progress s.timer,
-        same_noted received_in (λ port to bytes es. refl) (A_datagram d),
-      )
-  counts now s t does =
-      omega (
-        arith,
-        ap (λ (u : Timer). u.received) (timer_is does),
-        same_noted received_in (λ port to bytes es. refl) does,
-      )
+  counts now s t does = search rules
 
   -- along a run at a port each datagram received there is counted once
   pub counted_along : (now : ℕ) (s t : PortState S F D) → Run (PortStep meaning sources now) s t → Counts s t
@@ -45,11 +33,7 @@ module _ {S F D : Type 0} (meaning : StoreMeaning S D) (sources : SourceMeaning 
 
   -- a step at a port receives no more than a round allows
   pub port_few : (now : ℕ) (s t : PortState S F D) → PortStep meaning sources now s t → IsFew s.timer → IsFew t.timer
-  port_few now s t (A_datagram d) few =
-      omega (arith, ap (λ (u : Timer). u.received) d.timer ∙ after_received now d.step.progress s.timer, d.few)
-  port_few now s t (A_lost_datagram d) few = omega (arith, ap (λ (u : Timer). u.received) d.timer, d.few)
-  port_few now s t (A_late_datagram d) few = omega (arith, ap (λ (u : Timer). u.received) d.timer, d.few)
-  port_few now s t does few = omega (arith, ap (λ (u : Timer). u.received) (timer_is does), few)
+  port_few now s t does few = search rules
 
   step_few : (s t : LoopState S F D) → LoopStep meaning sources s t → AreFew s → AreFew t
   step_few s t (Waited d) few =
@@ -69,7 +53,5 @@ module _ {S F D : Type 0} (meaning : StoreMeaning S D) (sources : SourceMeaning 
 
   -- nor does a run of the loop, at any port
   pub few_along : (start now : LoopState S F D) → start.timers ≡ [] → Run (LoopStep meaning sources) start now → AreFew now
-  few_along start now none Start =
-      subst (All IsFew) (sym none) (λ k d h. absurd (omega (arith, h)))
-  few_along start now none (Then {middle} run does) =
-      step_few middle now does (few_along start middle none run)
+  few_along start now none Start = subst (All IsFew) (sym none) (λ k d h. absurd (omega (arith, h)))
+  few_along start now none (Then {middle} run does) = step_few _ _ does (few_along _ _ none run)

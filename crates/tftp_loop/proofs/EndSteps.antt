@@ -1,14 +1,13 @@
 -- What a step of an end makes, and what it leaves of its retries and of the timeouts until it closes. For six other files.
-use Rattle.tftp_loop.proofs.Common.{arith, ◌≡◌, ◌-◌, ◌≤◌, ◌+◌, ◌||◌, ◌&&◌, ◌⊎◌, not, max, ℕ, Bool, true, false, List, []}
-use Rattle.tftp_loop.proofs.Common.{Option, Some, None, refl, sym, ap, subst, ◌∙◌, inl, inr, if◌then◌else◌, is_some}
-use Rattle.tftp_loop.proofs.Common.{Result, Ok, Err, cases_eq, eq-eqb, ne_eqb, same_Some, Packet, has_error_opcode}
-use Rattle.tftp_loop.proofs.Common.{SourceMeaning, SinkMeaning, StoreFault, Files, Source, Sink, datagram_action}
-use Rattle.tftp_loop.proofs.Common.{EndState, Position, is_complete, is_progress, outcome_of, Acts, DatagramStep, Turn}
-use Rattle.tftp_loop.proofs.Common.{after_turn, response_turn, block_length, timeout_turn, Action, Respond, Send, Store}
-use Rattle.tftp_loop.proofs.Common.{Response, Retransmit, Close, Endpoint, Outcome, Fresh, Phase, Waiting, Sending}
-use Rattle.tftp_loop.proofs.Common.{Receiving, Dallying, Closed, Terms, ClosesInSilence}
+use Rattle.std.proofs.Common.{rules}
+use Rattle.tftp_loop.proofs.Common.{arith, ◌≡◌, ◌-◌, ◌≤◌, ◌+◌, ◌⊎◌, ℕ, Bool, true, false, List, [], Option, Some, refl}
+use Rattle.tftp_loop.proofs.Common.{ap, subst, inl, inr, if◌then◌else◌, is_some, Result, Ok, Err, cases_eq, eq-eqb}
+use Rattle.tftp_loop.proofs.Common.{ne_eqb, same_Some, Packet, has_error_opcode, SourceMeaning, SinkMeaning, StoreFault}
+use Rattle.tftp_loop.proofs.Common.{Files, Source, Sink, datagram_action, EndState, Position, is_complete, is_progress}
+use Rattle.tftp_loop.proofs.Common.{outcome_of, Acts, DatagramStep, Turn, after_turn, response_turn, block_length}
+use Rattle.tftp_loop.proofs.Common.{timeout_turn, Action, Respond, Send, Store, Response, Retransmit, Close, Endpoint}
+use Rattle.tftp_loop.proofs.Common.{Outcome, Fresh, Phase, Sending, Receiving, Dallying, Closed, Terms, ClosesInSilence}
 use Rattle.std.specs.Prelude.{◌==◌, length, nat_lt}
-use Rattle.std.proofs.lemmas.List.{length-take}
 use Rattle.tftp_wire.specs.declared.packet.Packet.TheVariants as packets
 use Rattle.tftp_file.specs.Source.{Fills}
 use Rattle.tftp_file.specs.declared.fault.FileFault.{FileFault}
@@ -16,7 +15,6 @@ use Rattle.tftp_file.specs.declared.fault.FileFault.TheVariants as file_faults
 use Rattle.tftp_ends.specs.Action.{garbled_response, is_wrong_peer, packet_action}
 use Rattle.tftp_ends.specs.End.{terms_of}
 use Rattle.tftp_ends.specs.Phase.{closed, completed, refused, waited}
-use Rattle.tftp_ends.specs.Receiver.{dally_response}
 use Rattle.tftp_ends.specs.Step.{Done, GoesOn, Sends, ack_bytes, after, commit_reply, committed_turn, data_bytes}
 use Rattle.tftp_ends.specs.Step.{holding, refused_turn, result_count_is, sent_turn}
 use Rattle.tftp_ends.specs.declared.action.Response.TheVariants.{Ignore, WrongPeer, ResendReply, Wait}
@@ -38,34 +36,19 @@ timeouts_in left phase = left + 1
 abbrev pub timeouts_left : EndState → ℕ
 timeouts_left e = timeouts_in e.position.retries_left e.position.phase
 
--- they are one more than the retries at most
-pub most_left : (p : Phase) (left retries : ℕ) → left ≤ retries → timeouts_in left p ≤ max 1 retries + 1
-most_left (Dallying terms number Fresh) left retries h = omega arith
-most_left p left retries h = omega (arith, h)
-
 -- an open end has one at least
 pub open_left : (p : Phase) (left : ℕ) → is_some (outcome_of p) ≡ false → 1 ≤ timeouts_in left p
-open_left (Closed terms number complete outcome) left h = absurd (let e : true ≡ false = h in cc)
-open_left (Dallying terms number Fresh) left h = omega arith
-open_left p left h = omega arith
+open_left p left h = search rules
 
 -- a closed end has none
 pub closed_left : (p : Phase) (left : ℕ) → is_some (outcome_of p) ≡ true → timeouts_in left p ≡ 0
-closed_left (Closed terms number complete outcome) left h = refl
-closed_left p left h = absurd (let e : false ≡ true = h in cc)
+closed_left p left h = search rules
 
 -- ---- what a step of an end makes
 -- the bytes of a fill are no more than were requested
 pub at_most : (before after : Option (List ℕ)) (want : ℕ) (piece : List ℕ) (answer : Result ℕ FileFault)
     → Fills before after want [] piece answer → length piece ≤ want
-at_most (Some left) after want piece (Ok k) f =
-    omega (arith, ap (λ (t : List ℕ). length t) f.given, length-take k left, f.count)
-at_most None after want piece (Ok k) f = omega (arith, ap (λ (t : List ℕ). length t) f.given, f.count, f.bound)
-at_most (Some left) after want piece (Err file_faults.Read) f = omega (arith, ap (λ (t : List ℕ). length t) f)
-at_most None after want piece (Err file_faults.Read) f = omega (arith, ap (λ (t : List ℕ). length t) f)
-at_most (Some left) after want piece (Err file_faults.Memory) f =
-    omega (arith, ap (λ (t : List ℕ). length t) f.kept)
-at_most None after want piece (Err file_faults.Memory) f = omega (arith, ap (λ (t : List ℕ). length t) f.kept)
+at_most before after want piece answer f = search rules
 
 module _ {S K : Type 0} (sources : SourceMeaning S) (from : Endpoint) (e : EndState) (turn : Turn) where
   -- the turn of an action is that of its response, or DATA that the source gave, an ACK or an ERROR
@@ -155,48 +138,15 @@ module _ {S K : Type 0} {sources : SourceMeaning S} {sinks : SinkMeaning K} {fro
     {e : EndState} {files : Files S K} {turn : Turn} {files' : Files S K} where
   -- a datagram moves the position so
   pub datagram_moves : DatagramStep sources sinks from bytes e files turn files' → Moves e turn.position
-  datagram_moves steps =
-      made_moves (acts_make sources sinks from bytes e turn (datagram_action e from bytes steps.decoded) files files'
-      steps.acts)
-
--- ---- the retries
-limit_by : (b : Bool) (retries left left' : ℕ) → left' ≡ (if b then retries else left) → left ≤ retries
-    → left' ≤ retries
-limit_by true retries left left' e h = omega (arith, e)
-limit_by false retries left left' e h = omega (arith, e, h)
-
--- a step leaves no more retries than the end began with
-pub moves_limit : (e : EndState) (position : Position) → Moves e position → e.position.retries_left ≤ e.role.retries
-    → position.retries_left ≤ e.role.retries
-moves_limit e position (Stays_in is fewer) h = omega (arith, fewer, h)
-moves_limit e position (Waits_on fewer is) h = omega (arith, fewer, h)
-moves_limit e position (Enters phase is left) h = limit_by
-    (is_progress e.position.phase phase) e.role.retries e.position.retries_left position.retries_left left h
-
-kept_by : (b : Bool) (retries left left' : ℕ) → b ≡ false → left' ≡ (if b then retries else left) → left' ≤ left
-kept_by true retries left left' still e = absurd (cc)
-kept_by false retries left left' still e = omega (arith, e)
+  datagram_moves steps = search (rules, made_moves, acts_make, datagram_action)
 
 moves_fewer : (e : EndState) (position : Position) → Moves e position
     → is_progress e.position.phase position.phase ≡ false → position.retries_left ≤ e.position.retries_left
-moves_fewer e position (Stays_in is fewer) still = fewer
-moves_fewer e position (Waits_on fewer is) still = fewer
-moves_fewer e position (Enters phase is left) still =
-    kept_by (is_progress e.position.phase phase) e.role.retries e.position.retries_left position.retries_left
-    (ap (λ (p : Phase). is_progress e.position.phase p) (sym is) ∙ still) left
-
--- ---- a datagram without progress
-not_dally : (a b c : Bool) → c ≡ false → (a || (b || (not c && true))) ≡ false → ⊥
-not_dally true b c complete still = cc
-not_dally false true c complete still = cc
-not_dally false false true complete still = cc
-not_dally false false false complete still = cc
+moves_fewer e position moves still = search rules
 
 still_at_most : (p p' : Phase) (left : ℕ) → is_complete p ≡ false → is_progress p p' ≡ false
     → timeouts_in left p' ≤ left + 1
-still_at_most p (Dallying terms number dally) left complete still =
-    absurd (not_dally _ _ (is_complete p) complete still)
-still_at_most p p' left complete still = omega arith
+still_at_most p p' left complete still = search rules
 
 -- an end that dallies or has closed takes nothing from a datagram
 abbrev IsQuiet : Action → Type 0
@@ -205,22 +155,11 @@ IsQuiet (Respond WrongPeer) = Unit {0}
 IsQuiet (Respond ResendReply) = Unit {0}
 IsQuiet action = ⊥
 
-again_quiet : (b : Bool) → IsQuiet (Respond (if b then ResendReply else Ignore))
-again_quiet true = tt
-again_quiet false = tt
-
-dally_quiet : (number : ℕ) (decoded : Option Packet) → IsQuiet (Respond (dally_response number decoded))
-dally_quiet number (Some (packets.Data block bytes)) = again_quiet (block == number)
-dally_quiet number decoded = tt
-
 quiet_by : (stranger error garbled : Bool) (response : Response) (action : Action) → IsQuiet (Respond response)
     → IsQuiet action
     → IsQuiet (if stranger then (if error then Respond Ignore else Respond WrongPeer) else if garbled then Respond
     response else action)
-quiet_by true true garbled response action h k = tt
-quiet_by true false garbled response action h k = tt
-quiet_by false error true response action h k = h
-quiet_by false error false response action h k = k
+quiet_by stranger error garbled response action h k = search rules
 
 -- the phase is one of an open end that does not dally, or the end takes nothing
 abbrev Ends : Phase → Type 0
@@ -230,20 +169,13 @@ Ends phase =
     × IsQuiet (Respond (garbled_response phase)))
 
 ends : (phase : Phase) → Ends phase
-ends (Waiting asked limit) = inl (refl, λ left. refl)
-ends (Sending terms number) = inl (refl, λ left. refl)
-ends (Receiving terms number) = inl (refl, λ left. refl)
-ends (Dallying terms number dally) = inr (λ e from decoded. dally_quiet number decoded, tt)
-ends (Closed terms number complete outcome) = inr (λ e from decoded. tt, tt)
+ends phase = search rules
 
 module _ {S K : Type 0} (sources : SourceMeaning S) (sinks : SinkMeaning K) (from : Endpoint) (bytes : List ℕ)
     (e : EndState) (files : Files S K) (turn : Turn) (files' : Files S K) where
   quiet_stays : (action : Action) → IsQuiet action → Acts sources sinks action from bytes e files turn files'
       → turn.position ≡ e.position
-  quiet_stays (Respond Ignore) quiet h = ap (λ (t : Turn). t.position) h.0
-  quiet_stays (Respond WrongPeer) quiet h = ap (λ (t : Turn). t.position) h.0
-  quiet_stays (Respond ResendReply) quiet h = ap (λ (t : Turn). t.position) h.0
-  quiet_stays action quiet h = absurd quiet
+  quiet_stays action quiet h = search rules
 
 module _ {S K : Type 0} {sources : SourceMeaning S} {sinks : SinkMeaning K} {from : Endpoint} {bytes : List ℕ}
     {e : EndState} {files : Files S K} {turn : Turn} {files' : Files S K} where
@@ -252,16 +184,14 @@ module _ {S K : Type 0} {sources : SourceMeaning S} {sinks : SinkMeaning K} {fro
       → is_progress e.position.phase turn.position.phase ≡ false → timeouts_left (after_turn e turn) ≤ timeouts_left e
   datagram_left steps still = elim (ends e.position.phase) [
     | inl going ↦
-        let fewer = moves_fewer e turn.position (datagram_moves steps) still in
+        let fewer = moves_fewer e _ (datagram_moves steps) still in
         let most = still_at_most e.position.phase turn.position.phase turn.position.retries_left going.0 still in
         omega (arith, fewer, most, going.1 e.position.retries_left)
     | inr quiet ↦
-        let stays = quiet_stays sources sinks from bytes e files turn files' (datagram_action e from bytes steps.decoded)
-        (quiet_by (is_wrong_peer (terms_of e.position.phase) e.position.last_sent_to from) (has_error_opcode bytes) _
-        (garbled_response e.position.phase) (packet_action e from steps.decoded e.position.phase) quiet.1
-        (quiet.0 e from steps.decoded)) steps.acts in
-        let same : timeouts_left (after_turn e turn) ≡ timeouts_left e =
-        ap (λ (p : Position). timeouts_in p.retries_left p.phase) stays in
+        let stays = quiet_stays _ _ _ _ e _ _ _ _ (quiet_by (is_wrong_peer (terms_of e.position.phase)
+        e.position.last_sent_to from) (has_error_opcode bytes) _ _ _ quiet.1 (quiet.0 e from steps.decoded)) steps.acts
+        in
+        let same = ap (λ p. timeouts_in p.retries_left p.phase) stays in
         omega (arith, same)
   ]
 
@@ -306,16 +236,9 @@ abbrev in_phase_alone : Phase → EndState → EndState
 in_phase_alone p e = record e { position = record e.position { phase = p } }
 
 timeout_at : (p : Phase) (e : EndState) → Spends (in_phase_alone p e) (timeout_turn (in_phase_alone p e)).position
-timeout_at (Dallying terms number Fresh) e = record {
-  moves = Waits_on (omega arith) refl;
-  left = λ h. omega arith;
-  complete = refl;
-  closes = λ o is. inr (inr is);
-}
-timeout_at (Dallying terms number Waited) e =
-    gives_up (in_phase_alone (Dallying terms number Waited) e) e.position.last_sent_to outcomes.Complete
-    (inr (inl (refl, refl)))
-timeout_at p e = tries (in_phase_alone p e) (λ some h. omega (arith, some, h))
+timeout_at (Dallying terms number Fresh) e = search rules
+timeout_at (Dallying terms number Waited) e = gives_up _ e.position.last_sent_to _ (inr (inl (refl, refl)))
+timeout_at p e = tries _ (λ some h. omega (arith, some, h))
 
 -- each timeout of an open end does
 pub timeout_spends : (e : EndState) → Spends e (timeout_turn e).position

@@ -1,25 +1,25 @@
 -- A transfer that makes no progress is closed in time, and its line is printed. For
 -- `a_server_closes_what_makes_no_progress` and ByTheClock.
-use Rattle.tftp_loop.proofs.Common.{after_request, arith, ◌≡◌, ◌<◌, ◌≤◌, ◌+◌, ◌*◌, ◌⊎◌, max, ℕ, Bool, true, false, List}
-use Rattle.tftp_loop.proofs.Common.{[], ◌++◌, length, map, Option, Some, None, IsSome, refl, sym, ap, subst, ◌∙◌, inl}
-use Rattle.tftp_loop.proofs.Common.{inr, slice_index_or, slice_set, if◌then◌else◌, cases_eq, append_assoc, length-map}
-use Rattle.tftp_loop.proofs.Common.{none-some, SourceMeaning, Endpoint, Outcome, Record, EndState, is_complete}
-use Rattle.tftp_loop.proofs.Common.{outcome_of, record_of, StoreMeaning, TransferState, at, draft_of, is_closed}
-use Rattle.tftp_loop.proofs.Common.{taken_of, with_new, Came, A_transfer, left_by, deadline_of, last_moment}
-use Rattle.tftp_loop.proofs.Common.{LONGEST_WAIT, SocketEvent, Run, Start, Then, Timer, PortState, LoopState, PortStep}
+use Rattle.std.proofs.Common.{rules}
+use Rattle.tftp_loop.proofs.Common.{after_request, arith, ◌≡◌, ◌<◌, ◌≤◌, ◌+◌, ◌⊎◌, max, ℕ, List, [], ◌++◌, length, map}
+use Rattle.tftp_loop.proofs.Common.{Option, Some, None, IsSome, refl, sym, ap, subst, ◌∙◌, inl, inr, slice_index_or}
+use Rattle.tftp_loop.proofs.Common.{slice_set, cases_eq, append_assoc, length-map, none-some, SourceMeaning, Endpoint}
+use Rattle.tftp_loop.proofs.Common.{Outcome, EndState, is_complete, outcome_of, record_of, StoreMeaning, TransferState}
+use Rattle.tftp_loop.proofs.Common.{at, draft_of, is_closed, taken_of, with_new, Came, A_transfer, left_by, deadline_of}
+use Rattle.tftp_loop.proofs.Common.{last_moment, LONGEST_WAIT, Run, Start, Then, Timer, PortState, LoopState, PortStep}
 use Rattle.tftp_loop.proofs.Common.{LoopStep, Waits, interval_at, marked_by, port_state, set_by, started, wait_in}
-use Rattle.tftp_loop.proofs.Common.{A_datagram, A_lost_datagram, Waited, At_port, Request_answered, Transfer_closed}
-use Rattle.tftp_loop.proofs.Common.{IsNoWait, ClosesInSilence, IsIdleAt, ReceivesNoneAt, AreKept}
+use Rattle.tftp_loop.proofs.Common.{Waited, At_port, Request_answered, Transfer_closed, IsNoWait, ClosesInSilence}
+use Rattle.tftp_loop.proofs.Common.{IsIdleAt, ReceivesNoneAt, AreKept}
 use Rattle.std.specs.List.{Contains}
 use Rattle.tftp_loop.specs.Expiry.{After, At_first, ClosesOverAge, ClosesWithoutProgress, Idles, IsIdle, NoneReceived}
 use Rattle.tftp_loop.specs.Expiry.{PrintsClose, ReceivesNone, TimesOutInSilence, closing_time, counted_from}
 use Rattle.tftp_loop.proofs.Adding.{Adds, adds_more, request_adds, step_adds, step_forward}
 use Rattle.tftp_loop.proofs.Bounded.{some_at, sound_along}
 use Rattle.tftp_loop.proofs.EndSteps.{open_left, timeouts_left}
-use Rattle.tftp_loop.proofs.InTime.{InTime, at_last, changes_closes, changes_complete, changes_in_time, first_time}
-use Rattle.tftp_loop.proofs.InTime.{last_of, latest, latest_later, no_later, rested, set_early}
+use Rattle.tftp_loop.proofs.InTime.{InTime, at_last, changes_closes, changes_complete, changes_in_time, last_of}
+use Rattle.tftp_loop.proofs.InTime.{latest_later, no_later, rested, set_early}
 use Rattle.tftp_loop.proofs.ListLemmas.{set_long}
-use Rattle.tftp_loop.proofs.PortEnds.{HasSpent, SameTimer, at_transfer, same_timer}
+use Rattle.tftp_loop.proofs.PortEnds.{SameTimer, at_transfer, same_timer}
 use Rattle.tftp_loop.proofs.PortStays.{stays_at}
 use Rattle.tftp_loop.proofs.Rounds.{InRound, begins_round, next_round, step_round, wait_or_work}
 use Rattle.tftp_loop.proofs.Sleeping.{step_kept}
@@ -71,8 +71,7 @@ module _ {S F D : Type 0} (meaning : StoreMeaning S D) (sources : SourceMeaning 
     closed = (
       adds.more ++ gone.closed.0,
       gone.closed.1,
-      adds.is ∙ (ap (λ (xs : List SocketEvent). adds.more ++ xs) gone.closed.2
-          ∙ sym (append_assoc adds.more gone.closed.0 _)),
+      adds.is ∙ (ap (λ xs. adds.more ++ xs) gone.closed.2 ∙ sym (append_assoc adds.more gone.closed.0 _)),
     );
     why = λ quiet. gone.why (fewer quiet);
   }
@@ -113,9 +112,7 @@ module _ {S F D : Type 0} (meaning : StoreMeaning S D) (sources : SourceMeaning 
 
     -- and no other has its port
     own_index : AreKept s.server.held s.timers → own.port ≡ timer.port → lasts.index ≡ index
-    own_index kept e =
-        kept.apart lasts.index index own own lasts.within within (ap (λ (t : Timer). t.port) (lasts.is own)
-        ∙ (lasts.same.port ∙ (sym e ∙ ap (λ (t : Timer). t.port) is)))
+    own_index kept e = search rules
 
   -- a step at a port
   step_at : (Quiet More : Type 0) (since : ℕ) (s : LoopState S F D) (index : ℕ) (own : Timer) (next : PortState S F D)
@@ -127,7 +124,7 @@ module _ {S F D : Type 0} (meaning : StoreMeaning S D) (sources : SourceMeaning 
       → Lasts More since
       (record s { server = next.server; timers = slice_set s.timers index next.timer; events = next.events })
   step_at Quiet More since s index own next within is does kept fewer idle silent soon adds lasts =
-      let stays = stays_at meaning sources s.now (port_state s own) next does in
+      let stays = stays_at _ _ _ _ _ does in
       let long = set_long s.timers index next.timer in
       elim (cases_eq lasts.index index) [
         | inl here ↦
@@ -135,35 +132,28 @@ module _ {S F D : Type 0} (meaning : StoreMeaning S D) (sources : SourceMeaning 
             let was : SameTimer timer own = rw own_is lasts.same in
             let port_is = was.port in
             let same = same_timer does in
-            let changed = at_transfer meaning sources s.now (port_state s own) next does lasts.transfer
-            (ap (λ (p : ℕ). at p s.server.held) port_is ∙ lasts.found) in
+            let changed = at_transfer _ _ _ _ _ does _ (ap (λ p. at p s.server.held) port_is ∙ lasts.found) in
             let counts : CountsDown since own (timeouts_left lasts.transfer.end) = rw own_is lasts.counts in
             record {
               index = index;
               here = next.timer;
               within = omega (arith, long, within);
               is = λ d. set_own s.timers index next.timer d within;
-              same = record {
-                port = same.port ∙ was.port;
-                peer = same.peer ∙ was.peer;
-                interval = same.interval ∙ was.interval;
-                backoff = same.backoff ∙ was.backoff;
-                age = same.age ∙ was.age;
-              };
+              same = search rules;
               transfer = changed.next;
-              found = ap (λ (p : ℕ). at p next.server.held) (sym port_is) ∙ changed.found;
-              counts = changes_in_time start since timer.backoff timer.interval most changed.changes (idle port_is)
-                  was.interval was.backoff soon counts;
-              complete = λ quiet. changes_complete changed.changes (silent quiet port_is) ∙ lasts.complete (fewer quiet);
+              found = ap (λ p. at p next.server.held) (sym port_is) ∙ changed.found;
+              counts = changes_in_time start _ _ _ most changed.changes (idle port_is) was.interval was.backoff soon
+                  counts;
+              complete = λ quiet. changes_complete changed.changes (silent quiet port_is) ∙ lasts.complete (fewer
+                  quiet);
               closes = λ quiet. changes_closes changed.changes (silent quiet port_is) e0 (lasts.complete (fewer quiet))
                   (lasts.closes (fewer quiet));
-              adds = adds_more first.events s.events next.events lasts.adds adds;
+              adds = adds_more _ _ _ lasts.adds adds;
             }
         | inr other ↦
-            let apart : timer.port ≡ own.port → ⊥ = λ e. other (own_index lasts own within is kept (sym e)) in
-            still_lasts Quiet More since s _ lasts.index fewer adds lasts (omega (arith, long, lasts.within))
-            (λ d. set_other s.timers index next.timer lasts.index d other ∙ lasts.is d)
-            (stays.held.others timer.port apart ∙ lasts.found)
+            let apart : timer.port ≡ own.port → ⊥ = λ e. other (own_index lasts _ within is kept (sym e)) in
+            still_lasts Quiet More since s _ lasts.index fewer adds lasts (omega (arith, long, lasts.within)) (λ d.
+            set_other s.timers _ next.timer _ d other ∙ lasts.is d) (stays.held.others timer.port apart ∙ lasts.found)
       ]
 
   -- another transfer opens
@@ -198,34 +188,33 @@ module _ {S F D : Type 0} (meaning : StoreMeaning S D) (sources : SourceMeaning 
       → Lasts Quiet since s → Lives More since t
   step_lives Quiet More since s t (Waited d) is idle fewer silent soon kept lasts = absurd is
   step_lives Quiet More since s t (At_port d) is idle fewer silent soon kept lasts =
-      let adds = step_adds meaning sources s t (At_port d) in
-      inr (subst (Lasts More since) (sym d.is)
-      (step_at Quiet More since s d.index d.timer d.next d.within d.is_timer d.does kept fewer idle silent
-      (subst (λ (u : LoopState S F D). u.now ≤ since + LONGEST_WAIT) d.is soon)
-      (subst (λ (u : LoopState S F D). Adds s.events u.events) d.is adds) lasts))
+      let adds = step_adds _ _ s t (At_port d) in
+      inr (subst (Lasts More since) (sym d.is) (step_at _ _ _ s _ _ _ d.within d.is_timer _ kept fewer idle silent
+      (subst (λ u. u.now ≤ since + LONGEST_WAIT) d.is soon) (subst (λ u. Adds s.events u.events) d.is adds) lasts))
   step_lives Quiet More since s t (Request_answered d) is idle fewer silent soon kept lasts =
-      inr (subst (Lasts More since) (sym (answer_is d))
-      (opens_lasts Quiet More since d.from d.tid s d.steps.came d.free fewer lasts))
+      inr (subst (Lasts More since) (sym (answer_is d)) (opens_lasts _ _ _ d.from _ s d.steps.came d.free fewer lasts))
   step_lives Quiet More since s t (Transfer_closed d) is idle fewer silent soon kept lasts =
       elim (cases_eq lasts.index d.index) [
         | inl here ↦
             let was : SameTimer timer d.timer = rw (own_timer lasts d.timer d.within d.is_timer here) lasts.same in
             let port_is = was.port in
-            let peer_is = ap (λ (p : Endpoint). p.port) was.peer in
-            let held : taken_of (Some lasts.transfer) ≡ Some d.taken =
-            ap (λ (o : Option (TransferState F D)). taken_of o) (sym lasts.found)
-            ∙ (ap (λ (p : ℕ). taken_of (at p s.server.held)) (sym port_is) ∙ d.is_taken) in
-            let record_is : record_of lasts.transfer.end ≡ d.taken.0 =
-            ap (λ (p : Record × Option D). p.0) (taken_by (is_closed lasts.transfer)
-            (record_of lasts.transfer.end, draft_of lasts.transfer.files) d.taken held) in
-            let outcome_is : outcome_of lasts.transfer.end.position.phase ≡ Some d.outcome =
-            ap (λ (r : Record). r.outcome) record_is ∙ d.has_outcome in
+            let peer_is = ap (λ p. p.port) was.peer in
+            let held =
+            ap (λ o. taken_of o) (sym lasts.found) ∙ (ap (λ p. taken_of (at p s.server.held)) (sym port_is) ∙
+            d.is_taken) in
+            let record_is =
+            ap (λ p. p.0) (taken_by (is_closed lasts.transfer) (
+              record_of lasts.transfer.end,
+              draft_of
+                  lasts.transfer.files,
+            ) d.taken held) in
+            let outcome_is = ap (λ r. r.outcome) record_is ∙ d.has_outcome in
             inl (record {
               outcome = d.outcome;
               closed = (
                 [],
                 lasts.adds.more,
-                ap (λ (u : LoopState S F D). u.events) d.is ∙ rw (port_is, peer_is, lasts.adds.is) refl,
+                ap (λ u. u.events) d.is ∙ rw (port_is, peer_is, lasts.adds.is) refl,
               );
               why = λ quiet. lasts.closes (fewer quiet) d.outcome outcome_is;
             })
@@ -233,27 +222,22 @@ module _ {S F D : Type 0} (meaning : StoreMeaning S D) (sources : SourceMeaning 
             let apart : timer.port ≡ d.timer.port → ⊥ =
             λ e. other (own_index lasts d.timer d.within d.is_timer kept (sym e)) in
             let index = removed_index s.timers d.index d.timer lasts.index d.within lasts.within other in
-            let adds = subst (λ (u : LoopState S F D). Adds s.events u.events) d.is
-            (step_adds meaning sources s t (Transfer_closed d)) in
-            inr (subst (Lasts More since) (sym d.is)
-            (still_lasts Quiet More since s _ index.0 fewer adds lasts index.1 (λ e. index.2 e ∙ lasts.is e)
-            (removed_apart d.timer.port timer.port apart s.server.held ∙ lasts.found)))
+            let adds = subst (λ u. Adds s.events u.events) d.is (step_adds meaning sources s t (Transfer_closed d)) in
+            inr (subst (Lasts More since) (sym d.is) (still_lasts Quiet More since s _ index.0 fewer adds lasts index.1
+            (λ e. index.2 e ∙ lasts.is e) (removed_apart d.timer.port timer.port apart s.server.held ∙ lasts.found)))
       ]
   step_lives Quiet More since s t does is idle fewer silent soon kept lasts =
-      passes Quiet More since s t _ does fewer (state_is does) refl refl lasts
+      passes _ _ _ s t _ does fewer (state_is does) refl refl lasts
 
   -- ---- at a wait
   due_later : (now : ℕ) (here : Timer) → (now < here.deadline) ⊎ (here.deadline ≡ deadline_of now (wait_in here))
       → now ≤ last_moment → now ≤ here.deadline
-  due_later now here (inl early) soon = omega (arith, early)
-  due_later now here (inr starts) soon = omega (arith, starts, soon)
+  due_later now here set soon = search rules
 
   rests_early : (Quiet : Type 0) (since : ℕ) (s t : LoopState S F D) → Waits meaning sources s t → s.now ≤ last_moment
       → (lasts : Lasts Quiet since s) → s.now ≤ lasts.here.deadline
   rests_early Quiet since s t waits soon lasts =
-      due_later s.now lasts.here
-      (subst (λ (u : Timer). (s.now < u.deadline) ⊎ (u.deadline ≡ deadline_of s.now (wait_in u))) (lasts.is timer)
-      (waits.may.transfers lasts.index timer lasts.within).due) soon
+      due_later s.now lasts.here (rw (← lasts.is timer) (waits.may.transfers lasts.index timer lasts.within).due) soon
 
   rests_lives : (Quiet More : Type 0) (since : ℕ) (s t : LoopState S F D) → Waits meaning sources s t → (More → Quiet)
       → s.now ≤ last_moment → InRound meaning sources since s → Lasts Quiet since s → Lasts More s.now t
@@ -261,31 +245,24 @@ module _ {S F D : Type 0} (meaning : StoreMeaning S D) (sources : SourceMeaning 
       let more = length-map (map (set_by waits.watch.now) s.timers) (marked_by waits.ports) in
       let as_many = length-map s.timers (set_by waits.watch.now) in
       let here = lasts.here in
-      let early = rests_early Quiet since s t waits soon lasts in
+      let early = rests_early _ _ s t waits soon lasts in
       let later = deadline_later waits.watch.now here.provisional here in
-      let set = set_early since waits.watch.now here.provisional here
-      (omega (arith, waits.by.soon, in_round.soon, in_round.limit)) in
-      let adds = subst (λ (u : LoopState S F D). Adds s.events u.events) waits.is
-      (step_adds meaning sources s t (Waited waits)) in
+      let set = set_early _ _ here.provisional here (omega (arith, waits.by.soon, in_round.soon, in_round.limit)) in
+      let adds = subst (λ u. Adds s.events u.events) waits.is (step_adds _ _ s t (Waited waits)) in
       subst (Lasts More s.now) (sym waits.is) (record {
         index = lasts.index;
         here = marked_by waits.ports (set_by waits.watch.now lasts.here);
         within = omega (arith, more, as_many, lasts.within);
-        is = λ d. waited_at waits.watch.now waits.ports s.timers lasts.index d lasts.within
-            ∙ ap (λ (t : Timer). marked_by waits.ports (set_by waits.watch.now t)) (lasts.is d);
-        same = record {
-          port = lasts.same.port;
-          peer = lasts.same.peer;
-          interval = lasts.same.interval;
-          backoff = lasts.same.backoff;
-          age = lasts.same.age;
-        };
+        is = λ d. waited_at waits.watch.now waits.ports _ _ d lasts.within ∙ ap (λ t. marked_by waits.ports (set_by
+            waits.watch.now t)) (lasts.is d);
+        same = search;
         transfer = lasts.transfer;
         found = lasts.found;
-        counts = λ some. rested (omega (arith, early, later)) (no_later set (omega arith) (omega arith) (lasts.counts some));
+        counts = λ some. rested (omega (arith, early, later)) (no_later set (omega arith) (omega arith) (lasts.counts
+            some));
         complete = λ quiet. lasts.complete (fewer quiet);
         closes = λ quiet. lasts.closes (fewer quiet);
-        adds = adds_more first.events s.events _ lasts.adds adds;
+        adds = adds_more _ _ _ lasts.adds adds;
       })
 
   -- ---- along a run
@@ -336,25 +313,14 @@ module _ {S F D : Type 0} (meaning : StoreMeaning S D) (sources : SourceMeaning 
       one_lives Quiet More middle last does (λ m. m.0) (lives_along run before start) (λ lasts. idle) (λ lasts m. m.1)
       before
 
-  -- ---- over age
-  -- a step at a port whose transfer is over age handles nothing
-  late_at : (now : ℕ) (old new : PortState S F D) (does : PortStep meaning sources now old new)
-      → old.timer.age_limit < now → IsIdleAt meaning sources does × ReceivesNoneAt meaning sources does
-  late_at now old new (A_datagram d) late = absurd (omega (arith, d.in_time, late))
-  late_at now old new (A_lost_datagram d) late = absurd (omega (arith, d.in_time, late))
-  late_at now old new does late = (tt, tt)
-
   late_idle : (Quiet : Type 0) (since : ℕ) (s t : LoopState S F D) (does : LoopStep meaning sources s t)
       → AreKept s.server.held s.timers → timer.age_limit < s.now → Lasts Quiet since s
       → IsIdle meaning sources timer.port does × ReceivesNone meaning sources timer.port does
   late_idle Quiet since s t (At_port d) kept late lasts =
       let own_is : d.timer.port ≡ timer.port → d.timer ≡ lasts.here =
       λ e. own_timer lasts d.timer d.within d.is_timer (own_index lasts d.timer d.within d.is_timer kept e) in
-      let both : d.timer.port ≡ timer.port
-      → IsIdleAt meaning sources d.does × ReceivesNoneAt meaning sources d.does =
-      λ e.
-      let age : d.timer.age_limit ≡ timer.age_limit = ap (λ (u : Timer). u.age_limit) (own_is e) ∙ lasts.same.age in
-      late_at s.now (port_state s d.timer) d.next d.does (omega (arith, age, late)) in
+      let both : d.timer.port ≡ timer.port → IsIdleAt meaning sources d.does × ReceivesNoneAt meaning sources d.does
+      = search rules in
       (λ e. (both e).0, λ e. (both e).1)
   late_idle Quiet since s t does kept late lasts = (tt, tt)
 
@@ -373,8 +339,7 @@ module _ {S F D : Type 0} (meaning : StoreMeaning S D) (sources : SourceMeaning 
       let both = late_idle (Unit {0}) was.on.since middle last does was.on.kept was.late in
       record {
         late = omega (arith, was.late, forward);
-        on = one_lives (Unit {0}) (Unit {0}) middle last does (λ q. q) was.on (λ lasts. (both lasts).0)
-            (λ lasts q. (both lasts).1) before;
+        on = search (rules, one_lives);
       }
 
   too_late : (Quiet : Type 0) (since : ℕ) (s t : LoopState S F D) → Waits meaning sources s t → s.now ≤ last_moment
@@ -384,32 +349,12 @@ module _ {S F D : Type 0} (meaning : StoreMeaning S D) (sources : SourceMeaning 
       let port_is : (slice_index_or s.timers lasts.index timer).port ≡ timer.port =
       ap (λ (u : Timer). u.port) (lasts.is timer) ∙ lasts.same.port in
       let not_closed : taken_of (Some lasts.transfer) ≡ None =
-      ap (λ (o : Option (TransferState F D)). taken_of o) (sym lasts.found)
-      ∙ (ap (λ (p : ℕ). taken_of (at p s.server.held)) (sym port_is)
-      ∙ (waits.may.transfers lasts.index timer lasts.within).not_closed) in
-      let some = open_left lasts.transfer.end.position.phase lasts.transfer.end.position.retries_left
-      (not_taken (is_closed lasts.transfer) (record_of lasts.transfer.end, draft_of lasts.transfer.files)
-      not_closed) in
+      ap (λ (o : Option (TransferState F D)). taken_of o) (sym lasts.found) ∙ (ap (λ (p : ℕ). taken_of (at p
+      s.server.held)) (sym port_is) ∙ (waits.may.transfers lasts.index timer lasts.within).not_closed) in
+      let some = open_left lasts.transfer.end.position.phase lasts.transfer.end.position.retries_left (not_taken
+      (is_closed lasts.transfer) (record_of lasts.transfer.end, draft_of lasts.transfer.files) not_closed) in
       let later = latest_later since lasts.here.provisional (wait_in lasts.here) lasts.here.deadline in
-      omega (
-        arith,
-        at_last some (let soon : s.now ≤ last_of since lasts.here = omega (arith, early, later) in soon)
-            (lasts.counts some),
-        late,
-      )
-
--- ---- the laws
--- at first each deadline is a wait away at most, from when on it counts
-near_first : (now : ℕ) (b : Bool) (timer : Timer) → timer.provisional ≡ b
-    → timer.deadline ≤ now + wait_in timer * 1000
-    → latest now b (wait_in timer) timer.deadline
-    ≤ (if b then now + LONGEST_WAIT else now) + wait_in timer * 1000
-near_first now true timer is near = omega (arith, near)
-near_first now false timer is near = near
-
-counted_later : (now : ℕ) (b : Bool) → now ≤ (if b then now + LONGEST_WAIT else now)
-counted_later now true = omega arith
-counted_later now false = omega arith
+      search (rules, at_last, last_of)
 
 module _ {S F D : Type 0} (meaning : StoreMeaning S D) (sources : SourceMeaning F) where
   -- a transfer lasts at first
@@ -418,14 +363,12 @@ module _ {S F D : Type 0} (meaning : StoreMeaning S D) (sources : SourceMeaning 
       → Contains first.timers timer → at timer.port first.server.held ≡ Some transfer
       → LivesOn meaning sources first timer transfer.end (Unit {0}) first
   begins start first timer transfer empty run has found =
-      let sound = sound_along meaning sources start first empty run in
+      let sound = sound_along _ _ _ _ empty run in
       let bounded = sound.bounded has.0 timer has.1 in
-      let is : (d : Timer) → slice_index_or first.timers has.0 d ≡ timer =
-      λ d. any_default first.timers has.0 d timer has.1 ∙ has.2 in
-      let near : timer.deadline ≤ first.now + wait_in timer * 1000 =
-      subst (λ (t : Timer). t.deadline ≤ first.now + wait_in t * 1000) has.2 bounded.near in
-      let few = subst (λ (t : Timer). HasSpent first.server.config.retries t transfer.end) has.2
-      (bounded.spent transfer (ap (λ (t : Timer). at t.port first.server.held) has.2 ∙ found)) in
+      let is : (d : Timer) → slice_index_or first.timers has.0 d ≡ timer = search (rules, any_default) in
+      let near = rw (has.2) at bounded.near in
+      let few = rw (has.2) at (bounded.spent transfer (ap (λ (t : Timer). at t.port first.server.held) has.2 ∙ found))
+      in
       record {
         since = first.now;
         in_round = begins_round meaning sources first;
@@ -438,8 +381,7 @@ module _ {S F D : Type 0} (meaning : StoreMeaning S D) (sources : SourceMeaning 
           same = record { port = refl; peer = refl; interval = refl; backoff = refl; age = refl };
           transfer = transfer;
           found = found;
-          counts = λ some. first_time (counted_later first.now timer.provisional)
-              (near_first first.now timer.provisional timer refl near) few;
+          counts = search rules;
           complete = λ quiet. refl;
           closes = λ quiet o closed. inr (inr closed);
           adds = record { more = []; is = refl };
@@ -449,37 +391,30 @@ module _ {S F D : Type 0} (meaning : StoreMeaning S D) (sources : SourceMeaning 
   -- a transfer from whose peer nothing comes closes by its timeouts, and in time
   pub times_out_in_silence : TimesOutInSilence meaning sources
   times_out_in_silence start first last new timer transfer empty run has found idles silent waits late soon =
-      let along = lives_along meaning sources first timer transfer.end idles soon
-      (begins start first timer transfer empty run has found) in
+      let along = lives_along _ _ _ _ transfer.end idles soon (begins _ _ _ _ empty run has found) in
       elim along.lives [
         | inl gone ↦ (gone.outcome, gone.closed, gone.why silent)
-        | inr lasts ↦ absurd (too_late meaning sources first timer transfer.end
-            (NoneReceived meaning sources idles) along.since last new waits soon late lasts)
+        | inr lasts ↦ absurd (too_late _ _ _ _ transfer.end _ _ _ _ waits soon late lasts)
       ]
 
   -- one that makes no progress has closed by the time that its retries allow
   pub closes_without_progress : ClosesWithoutProgress meaning sources
   closes_without_progress start first last new timer empty run has idles waits late soon =
-      let sound = sound_along meaning sources start first empty run in
+      let sound = sound_along _ _ _ _ empty run in
       let there : IsSome (at timer.port first.server.held) =
-      subst (λ (t : Timer). IsSome (at t.port first.server.held)) has.2
-      (sound.kept.each has.0 timer has.1).there in
-      let some = some_at (at timer.port first.server.held) there in
-      let along = lives_along meaning sources first timer some.0.end idles soon
-      (begins start first timer some.0 empty run has some.1) in
+      subst (λ (t : Timer). IsSome (at t.port first.server.held)) has.2 (sound.kept.each has.0 timer has.1).there in
+      let some = some_at _ there in
+      let along = lives_along _ _ _ _ some.0.end idles soon (begins _ _ _ _ empty run has some.1) in
       elim along.lives [
         | inl gone ↦ (gone.outcome, gone.closed)
-        | inr lasts ↦ absurd (too_late meaning sources first timer some.0.end
-            (NoneReceived meaning sources idles) along.since last new waits soon late lasts)
+        | inr lasts ↦ absurd (too_late _ _ _ _ some.0.end _ _ _ _ waits soon late lasts)
       ]
 
   -- one older than its age limit closes though datagrams come
   pub closes_over_age : ClosesOverAge meaning sources
   closes_over_age start first last new timer transfer empty run has found late goes waits over soon =
-      let along = late_along meaning sources first timer transfer.end goes late soon
-      (begins start first timer transfer empty run has found) in
+      let along = late_along _ _ _ _ transfer.end goes late soon (begins _ _ _ _ empty run has found) in
       elim along.on.lives [
         | inl gone ↦ (gone.outcome, gone.closed, gone.why tt)
-        | inr lasts ↦ absurd (too_late meaning sources first timer transfer.end
-            (Unit {0}) along.on.since last new waits soon over lasts)
+        | inr lasts ↦ absurd (too_late _ _ _ _ transfer.end _ _ _ _ waits soon over lasts)
       ]

@@ -1,9 +1,9 @@
 -- What holds of each transfer of a table.
 -- For Reflecting and Leaving, and for the runs of tftp_daemon.
+use Rattle.std.proofs.Common.{rules}
 use Rattle.tftp_loop.proofs.Common.{◌≡◌, ℕ, Bool, true, false, cond, List, [], ◌∷◌, Option, Some, sym, subst, IfSome}
 use Rattle.tftp_loop.proofs.Common.{All, is_at, lookup, values_of, nat_cmp, at, with_new, with_next, without}
-use Rattle.std.specs.Prelude.{Contains}
-use Rattle.std.proofs.lemmas.List.Elements.{All-contains_itself, All-head, All-tail, All-weaker}
+use Rattle.std.proofs.lemmas.List.Elements.{All-head, All-tail}
 use Rattle.std.proofs.lemmas.Map.Views.{All-map-remove_entry, All-values-insert_entry, All-values-set_value}
 
 module _ {T : Type 0} (P : T → Type 0) where
@@ -41,6 +41,4 @@ module _ {T : Type 0} (P : T → Type 0) where
 
   -- if it holds of every one
   pub held_any : ((transfer : T) → P transfer) → (held : List (ℕ × T)) → AllHeld held
-  held_any has held =
-      All-weaker (Contains (values_of held)) P (λ transfer contained. has transfer) (values_of held)
-      (All-contains_itself (values_of held))
+  held_any has held = search rules

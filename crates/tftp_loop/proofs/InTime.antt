@@ -1,8 +1,9 @@
 -- The time that is left to a transfer that makes no progress, and what a step at its port leaves of it. For Expiring.
-use Rattle.tftp_loop.proofs.Common.{arith, ◌≡◌, ◌≤◌, ◌+◌, ◌*◌, max, ℕ, zero, suc, Bool, true, false, Some, refl, sym}
-use Rattle.tftp_loop.proofs.Common.{ap, ◌∙◌, inl, inr, cases_eq, wait_of, Backoff, Outcome, EndState, is_complete}
-use Rattle.tftp_loop.proofs.Common.{outcome_of, after_turn, timeout_turn, deadline_of, LONGEST_WAIT, ClosesInSilence}
-use Rattle.tftp_loop.proofs.Common.{in_millis, waits_of, Timer, deadline_by, timeouts_after, timer_after, wait_in}
+use Rattle.std.proofs.Common.{rules}
+use Rattle.tftp_loop.proofs.Common.{arith, ◌≡◌, ◌≤◌, ◌+◌, ◌*◌, max, ℕ, zero, suc, Bool, true, false, Some, refl, ap}
+use Rattle.tftp_loop.proofs.Common.{inl, inr, cases_eq, wait_of, Backoff, Outcome, EndState, is_complete, outcome_of}
+use Rattle.tftp_loop.proofs.Common.{after_turn, timeout_turn, deadline_of, LONGEST_WAIT, ClosesInSilence, in_millis}
+use Rattle.tftp_loop.proofs.Common.{waits_of, Timer, deadline_by, timeouts_after, wait_in}
 use Rattle.tftp_loop.proofs.BackoffLemmas.{wait_more}
 use Rattle.tftp_loop.proofs.EndSteps.{timeout_spends, timeouts_left}
 use Rattle.tftp_loop.proofs.PortEnds.{By_datagram, By_late_timeout, By_nothing, By_timeout, Changes, spent_after}
@@ -21,43 +22,21 @@ module _ (backoff : Backoff) (interval : ℕ) where
   until n = waits_of backoff interval n + in_millis (wait_of backoff interval n)
 
   until_next : (n : ℕ) → until n ≤ until (suc n)
-  until_next n =
-      let next : waits_of backoff interval (suc n)
-      ≡ waits_of backoff interval n + (in_millis (wait_of backoff interval n) + LONGEST_WAIT) = refl in
-      omega (arith, next)
+  until_next n = search rules
 
   until_more : (n m : ℕ) → n ≤ m → until n ≤ until m
-  until_more n zero h =
-      let same : until n ≡ until zero = ap until (let e : n ≡ zero = omega (arith, h) in e) in omega (arith, same)
+  until_more n zero h = search rules
   until_more n (suc m) h = elim (cases_eq n (suc m)) [
     | inl e ↦ let same : until n ≡ until (suc m) = ap until e in omega (arith, same)
     | inr other ↦ omega (arith, until_more n m (omega (arith, h, other)), until_next m)
   ]
 
 module _ {start : ℕ} {backoff : Backoff} {interval most : ℕ} where
-  -- a timer that was set in this round is in time
-  pub first_time : {since deadline timeouts left : ℕ} → since ≤ start
-      → deadline ≤ start + in_millis (wait_of backoff interval timeouts) → timeouts + left ≤ most + 1
-      → InTime start backoff interval most since deadline timeouts left
-  first_time {timeouts = timeouts} from near few = record {
-    spent = timeouts;
-    few = omega (arith, few);
-    used = omega arith;
-    due = omega (arith, near);
-    newest = omega (arith, from);
-  }
-
   -- an earlier deadline and fewer timeouts are in time, too
   pub no_later : {since deadline deadline' timeouts timeouts' left left' : ℕ} → deadline' ≤ deadline
       → timeouts' ≤ timeouts → left' ≤ left → InTime start backoff interval most since deadline timeouts left
       → InTime start backoff interval most since deadline' timeouts' left'
-  no_later sooner less fewer t = record {
-    spent = t.spent;
-    few = omega (arith, t.few, fewer);
-    used = omega (arith, t.used, less);
-    due = omega (arith, t.due, sooner);
-    newest = t.newest;
-  }
+  no_later sooner less fewer t = search rules
 
   -- a timeout in the round in which it was due
   timed_out : {since deadline deadline' timeouts timeouts' left left' : ℕ}
@@ -65,23 +44,16 @@ module _ {start : ℕ} {backoff : Backoff} {interval most : ℕ} where
       → left' + 1 ≤ left → InTime start backoff interval most since deadline timeouts left
       → InTime start backoff interval most since deadline' timeouts' left'
   timed_out {timeouts' = timeouts'} near more fewer t =
-      let next : waits_of backoff interval (suc t.spent)
-      ≡ waits_of backoff interval t.spent + (in_millis (wait_of backoff interval t.spent) + LONGEST_WAIT) = refl in
+      let next : waits_of backoff interval (suc t.spent) ≡ waits_of backoff interval t.spent + (in_millis (wait_of
+      backoff interval t.spent) + LONGEST_WAIT) = refl in
       let longer = wait_more backoff interval timeouts' (suc t.spent) (omega (arith, more, t.used)) in
-      record {
-        spent = suc t.spent;
-        few = omega (arith, t.few, fewer);
-        used = omega (arith, more, t.used);
-        due = omega (arith, t.newest, near, next, longer);
-        newest = omega (arith, t.newest, next);
-      }
+      search rules
 
   -- at a wait the deadline is to come
   pub rested : {since deadline now timeouts left : ℕ} → now ≤ deadline
       → InTime start backoff interval most since deadline timeouts left
       → InTime start backoff interval most now deadline timeouts left
-  rested before t =
-      record { spent = t.spent; few = t.few; used = t.used; due = t.due; newest = omega (arith, t.due, before) }
+  rested before t = search rules
 
   -- a timer that is in time is due before the retries are spent
   pub at_last : {since deadline now timeouts left : ℕ} → 1 ≤ left → now ≤ deadline
@@ -107,10 +79,7 @@ latest_later since false seconds deadline = omega arith
 -- a deadline that is set from a reading of this round is not after the latest
 pub set_early : (since time : ℕ) (b : Bool) (timer : Timer) → time ≤ since + LONGEST_WAIT
     → deadline_by time b timer ≤ latest since b (wait_in timer) timer.deadline
-set_early since time true timer soon =
-    let own : deadline_of time (wait_in timer) ≤ time + wait_in timer * 1000 = omega arith in
-    omega (arith, own, soon)
-set_early since time false timer soon = omega arith
+set_early since time b timer soon = search rules
 
 -- ---- what a step at the port leaves
 module _ (start since : ℕ) (backoff : Backoff) (interval most : ℕ) where
@@ -123,14 +92,9 @@ module _ (start since : ℕ) (backoff : Backoff) (interval most : ℕ) where
       → Changes Idle Silent now timer timer' e e' → Idle → timer.interval ≡ interval → timer.backoff ≡ backoff
       → now ≤ since + LONGEST_WAIT → (1 ≤ timeouts_left e → KeepsTime timer e) → 1 ≤ timeouts_left e'
       → KeepsTime timer' e'
-  changes_in_time {now = now} {timer} {timer'} (By_datagram progress handled is_idle silent is) idle interval_is backoff_is
-      soon before some =
-      let still = is_idle idle in
-      let fewer = handled.left still in
-      let same = is ∙ ap (λ (b : Bool). timer_after now b timer) still in
-      let deadline : last_of since timer' ≡ last_of since timer = ap (last_of since) same in
-      let timeouts : timer'.timeouts ≡ timer.timeouts = ap (λ (t : Timer). t.timeouts) same in
-      no_later (omega (arith, deadline)) (omega (arith, timeouts)) fewer (before (omega (arith, some, fewer)))
+  changes_in_time {now = now} {timer} {timer'} (By_datagram progress handled is_idle silent is) idle interval_is
+      backoff_is
+      soon before some = search rules
   changes_in_time {now = now} {timer} {timer'} {e} {e'} (By_timeout again live end is) idle interval_is backoff_is soon
       before some =
       let same : timeouts_left e' ≡ timeouts_left (after_turn e (timeout_turn e)) = ap timeouts_left end in
@@ -152,35 +116,21 @@ module _ (start since : ℕ) (backoff : Backoff) (interval most : ℕ) where
       backoff_is soon before some =
       let same : timeouts_left e' ≡ timeouts_left e = ap timeouts_left end in
       let here : last_of since timer' ≡ last_of since timer = rw (provisional, wait, deadline) refl in
-      no_later (omega (arith, here)) (omega (arith, timeouts)) (omega (arith, same)) (before (omega (arith, some, same)))
-
--- how an end closes in silence from the first one on, if it does from the one before
-closes_first : (e e0 : EndState) (outcome : Outcome)
-    → is_complete e.position.phase ≡ is_complete e0.position.phase
-    → ((o : Outcome) → outcome_of e.position.phase ≡ Some o → ClosesInSilence e0.position.phase o)
-    → ClosesInSilence e.position.phase outcome → ClosesInSilence e0.position.phase outcome
-closes_first e e0 outcome complete closes (inl timed) = inl timed
-closes_first e e0 outcome complete closes (inr (inl done)) = inr (inl (done.0, sym complete ∙ done.1))
-closes_first e e0 outcome complete closes (inr (inr closed)) = closes outcome closed
+      no_later (omega (arith, here)) (omega (arith, timeouts)) (omega (arith, same)) (before (omega (
+        arith,
+        some,
+        same,
+      )))
 
 module _ {Idle Silent : Type 0} {now : ℕ} {timer timer' : Timer} {e e' : EndState} where
   -- a step without a datagram of the peer does not complete the transfer
   pub changes_complete : Changes Idle Silent now timer timer' e e' → Silent
       → is_complete e'.position.phase ≡ is_complete e.position.phase
-  changes_complete (By_datagram progress handled is_idle silent is) quiet = absurd (silent quiet)
-  changes_complete (By_timeout again live end is) quiet = rw end (timeout_spends e).complete
-  changes_complete (By_late_timeout end none is) quiet = rw end refl
-  changes_complete (By_nothing end deadline wait timeouts provisional) quiet = rw end refl
+  changes_complete changes quiet = search rules
 
   -- and closes it only as one closes in silence
   pub changes_closes : Changes Idle Silent now timer timer' e e' → Silent → (e0 : EndState)
       → is_complete e.position.phase ≡ is_complete e0.position.phase
       → ((o : Outcome) → outcome_of e.position.phase ≡ Some o → ClosesInSilence e0.position.phase o)
       → (o : Outcome) → outcome_of e'.position.phase ≡ Some o → ClosesInSilence e0.position.phase o
-  changes_closes (By_datagram progress handled is_idle silent is) quiet e0 complete closes o closed =
-      absurd (silent quiet)
-  changes_closes (By_timeout again live end is) quiet e0 complete closes o closed =
-      closes_first e e0 o complete closes ((timeout_spends e).closes o (rw end at closed))
-  changes_closes (By_late_timeout end none is) quiet e0 complete closes o closed = closes o (rw end at closed)
-  changes_closes (By_nothing end deadline wait timeouts provisional) quiet e0 complete closes o closed =
-      closes o (rw end at closed)
+  changes_closes changes quiet e0 complete closes o closed = search rules

@@ -1,16 +1,17 @@
 -- A server sends no block but one that a source gave, to who asked for its file.
 -- For the law a_server_sends_only_what_was_asked.
+use Rattle.std.proofs.Common.{rules}
 use Rattle.tftp_loop.proofs.Common.{arith, ◌≡◌, ◌≤◌, ◌⊎◌, ℕ, suc, Bool, List, [], ◌∷◌, ◌++◌, length, Option, Some, None}
-use Rattle.tftp_loop.proofs.Common.{refl, sym, ap, subst, ◌∙◌, inl, inr, All, slice_index_or, ⊤, AllByRecursion}
-use Rattle.tftp_loop.proofs.Common.{values_of, Mode, RawOption, Packet, Read, SinkMeaning, SourceMeaning, Files, Source}
-use Rattle.tftp_loop.proofs.Common.{Sink, datagram_action, EndState, Position, ServesRead, Acts, Reply, Turn}
-use Rattle.tftp_loop.proofs.Common.{after_turn, error_bytes, timeout_turn, Action, Respond, Send, Store, Endpoint}
-use Rattle.tftp_loop.proofs.Common.{Known, Limits, StoreMeaning, drafting_sink, Ask, Came, Nothing, Error_reply}
-use Rattle.tftp_loop.proofs.Common.{A_transfer, left_by, TransferState, ServerState, at, with_new, with_next, without}
-use Rattle.tftp_loop.proofs.Common.{KeepsHeld, with_end, WorksAt, SocketEvent, answered, Received, Elapsed, An_ack}
-use Rattle.tftp_loop.proofs.Common.{A_block, Run, Start, Then, PortState, LoopState, PortStep, LoopStep, after_request}
-use Rattle.tftp_loop.proofs.Common.{port_state, A_datagram, A_lost_datagram, A_timeout, Work, Waited, At_port}
-use Rattle.tftp_loop.proofs.Common.{Request_received, Request_answered, Request_lost, Store_set, Transfer_closed}
+use Rattle.tftp_loop.proofs.Common.{refl, sym, subst, ◌∙◌, All, slice_index_or, ⊤, AllByRecursion, values_of, Mode}
+use Rattle.tftp_loop.proofs.Common.{RawOption, Packet, Read, SinkMeaning, SourceMeaning, Files, Source, Sink}
+use Rattle.tftp_loop.proofs.Common.{datagram_action, EndState, Position, ServesRead, Acts, Reply, Turn, after_turn}
+use Rattle.tftp_loop.proofs.Common.{error_bytes, timeout_turn, Action, Endpoint, Known, Limits, StoreMeaning}
+use Rattle.tftp_loop.proofs.Common.{drafting_sink, Ask, Came, Nothing, Error_reply, A_transfer, left_by, TransferState}
+use Rattle.tftp_loop.proofs.Common.{ServerState, at, with_new, with_next, KeepsHeld, with_end, WorksAt, SocketEvent}
+use Rattle.tftp_loop.proofs.Common.{answered, Received, Elapsed, An_ack, A_block, Run, Start, Then, PortState}
+use Rattle.tftp_loop.proofs.Common.{LoopState, PortStep, LoopStep, after_request, A_datagram, A_lost_datagram}
+use Rattle.tftp_loop.proofs.Common.{A_timeout, Work, Waited, At_port, Request_received, Request_answered, Request_lost}
+use Rattle.tftp_loop.proofs.Common.{Store_set, Transfer_closed}
 use Rattle.std.specs.Prelude.{max}
 use Rattle.std.specs.List.{Contains}
 use Rattle.tftp_wire.specs.Spelling.{Spells}
@@ -65,11 +66,7 @@ said_more P Q bytes more (A_block number piece is given) = A_block number piece 
 
 at_more : (Fits : ℕ → Type 0) (P Q : List ℕ → Type 0) (peer : Endpoint) (position : Position)
     → ((piece : List ℕ) → P piece → Q piece) → IsAt Fits P peer position → IsAt Fits Q peer position
-at_more Fits P Q peer position more h = record {
-  to = h.to;
-  with_peer = h.with_peer;
-  said = said_more P Q position.last_sent more h.said;
-}
+at_more Fits P Q peer position more h = search (rules, said_more)
 
 -- ---- the calls of a source
 module _ {F K : Type 0} (sources : SourceMeaning F) (sinks : SinkMeaning K) where
@@ -83,9 +80,7 @@ module _ {F K : Type 0} (sources : SourceMeaning F) (sinks : SinkMeaning K) wher
   acts_give : (action : Action) (from : Endpoint) (bytes : List ℕ) (e : EndState) (source : F) (turn : Turn) (source' : F)
       → Acts sources sinks action from bytes e (Source source) turn (Source source')
       → (source' ≡ source) ⊎ ((piece : List ℕ) × sources.gives source piece source')
-  acts_give (Respond response) from bytes e source turn source' h = inl (same_source source' source h.1)
-  acts_give (Send terms number) from bytes e source turn source' h = inr (h.piece, h.gives)
-  acts_give (Store terms number) from bytes e source turn source' h = absurd h.2
+  acts_give action from bytes e source turn source' h = search rules
 
 module _ {S F D : Type 0} (meaning : StoreMeaning S D) (sources : SourceMeaning F) (root : List ℕ)
     (requests largest : ℕ) where
@@ -122,8 +117,7 @@ module _ {S F D : Type 0} (meaning : StoreMeaning S D) (sources : SourceMeaning 
   -- after a call
   reads_on : (peer : Endpoint) (events : List SocketEvent) (source source' : F) (piece : List ℕ)
       → ReadsFor peer events source → sources.gives source piece source' → ReadsFor peer events source'
-  reads_on peer events source source' piece reads gives =
-      record { asks = reads.asks; text = reads.text ++ piece; given = Gave_more reads.given gives }
+  reads_on peer events source source' piece reads gives = search (reads.text ++ piece, Gave_more reads.given gives)
 
   abbrev asks_later : (event : SocketEvent) (events : List SocketEvent) (peer : Endpoint) → AsksOf peer events
       → AsksOf peer (event ∷ events)
@@ -159,13 +153,12 @@ module _ {S F D : Type 0} (meaning : StoreMeaning S D) (sources : SourceMeaning 
 
   for_later : (event : SocketEvent) (events : List SocketEvent) (transfer : TransferState F D) → IsFor events transfer
       → IsFor (event ∷ events) transfer
-  for_later event events transfer is = record {
-    peer = is.peer;
-    at_peer = at_more Fits (Asked is.peer events) (Asked is.peer (event ∷ events)) is.peer transfer.end.position
-        (asked_later event events is.peer) is.at_peer;
-    files = files_later event events is.peer transfer.files is.files;
-    written = written_later event events is.peer is.written;
-  }
+  for_later event events transfer is =
+      search (
+        at_more Fits (Asked is.peer events) (Asked is.peer (event ∷ events)) is.peer transfer.end.position (asked_later event events is.peer) is.at_peer,
+        files_later event events is.peer transfer.files is.files,
+        written_later event events is.peer is.written,
+      )
 
   -- ---- of all
   abbrev AllFor : List SocketEvent → List (ℕ × TransferState F D) → Type 0
@@ -185,20 +178,15 @@ module _ {S F D : Type 0} (meaning : StoreMeaning S D) (sources : SourceMeaning 
   leaves_event : (before : List SocketEvent) (held : List (ℕ × TransferState F D)) (event : SocketEvent)
       (events : List SocketEvent) → MayHappen (AskedFor sources root requests largest) event events → Leaves before held events
       → Leaves before held (event ∷ events)
-  leaves_event before held event events may leaves = record {
-    transfers = all_later event events held leaves.transfers;
-    only = And_then leaves.only may;
-  }
+  leaves_event before held event events may leaves =
+      search (all_later event events held leaves.transfers, And_then leaves.only may)
 
   leaves_next : (before : List SocketEvent) (port : ℕ) (held held' : List (ℕ × TransferState F D))
       (events : List SocketEvent) (transfer next : TransferState F D) → held' ≡ with_next port next held
       → (own : IsFor events transfer) → IsAt Fits (Asked own.peer events) own.peer next.end.position
       → OfFiles own.peer events next.files → Leaves before held events → Leaves before held' events
-  leaves_next before port held held' events transfer next is own at_peer files leaves = record {
-    transfers = held_next (IsFor events) port held held' next leaves.transfers
-        (record { peer = own.peer; at_peer = at_peer; files = files; written = own.written }) is;
-    only = leaves.only;
-  }
+  leaves_next before port held held' events transfer next is own at_peer files leaves =
+      search (rules, held_next)
 
   -- an answer is sent to an endpoint that wrote
   leaves_reply : (before : List SocketEvent) (held : List (ℕ × TransferState F D)) (port : ℕ) (to : Endpoint)
@@ -206,8 +194,7 @@ module _ {S F D : Type 0} (meaning : StoreMeaning S D) (sources : SourceMeaning 
       → Leaves before held events → Leaves before held (answered port reply events)
   leaves_reply before held port to None events sends written leaves = leaves
   leaves_reply before held port to (Some reply) events sends written leaves =
-      leaves_event before held (Sent port reply.to reply.bytes) events
-      (rw (sends.0) (record { said = sends.1; written = written })) leaves
+      leaves_event _ _ _ _ (rw (sends.0) (record { said = sends.1; written = written })) leaves
 
   no_block : (to : Endpoint) (events : List SocketEvent) (reply : Option Reply) → SendsTo NoBlock to reply
       → SendsTo (Asked to events) to reply
@@ -238,31 +225,18 @@ module _ {S F D : Type 0} (meaning : StoreMeaning S D) (sources : SourceMeaning 
 
     step_files : (files files' : Files F D) → Steps files files'
         → AreSame (λ (x y : F). ⊤) (λ (x y : D). ⊤) files files' → OfFiles peer events files → OfFiles peer events files'
-    step_files (Source source) (Source source') steps kind of =
-        elim (acts_give sources drafts (datagram_action e from bytes steps.decoded) from bytes e source turn source'
-        steps.acts) [
-          | inl same ↦ subst (ReadsFor peer events) (sym same) of
-          | inr gave ↦ reads_on peer events source source' gave.0 of gave.1
-        ]
-    step_files (Sink draft) (Sink draft') steps kind of = tt
-    step_files files files' steps kind of = absurd kind
+    step_files files files' steps kind of = search (rules, acts_give, datagram_action, reads_on)
 
   -- a source that is kept gave nothing
   kept_files : (peer : Endpoint) (events : List SocketEvent) (store store' : S) (path path' : List ℕ) (replace : Bool)
       (files files' : Files F D)
       → KeepsFiles sources drafts (files_in store path replace files) (files_in store' path' replace files')
       → OfFiles peer events files → OfFiles peer events files'
-  kept_files peer events store store' path path' replace (Source source) (Source source') keeps of =
-      reads_on peer events source source' [] of keeps.gave
-  kept_files peer events store store' path path' replace (Sink draft) (Sink draft') keeps of = tt
-  kept_files peer events store store' path path' replace files files' keeps of = absurd keeps
+  kept_files peer events store store' path path' replace files files' keeps of = search (rules, reads_on)
 
   worked_files : (peer : Endpoint) (events : List SocketEvent) (store store' : S) (files files' : Files F D)
       → FilesWork meaning sources store store' files files' → OfFiles peer events files → OfFiles peer events files'
-  worked_files peer events store store' (Source source) (Source source') works of =
-      reads_on peer events source source' [] of works.1.gave
-  worked_files peer events store store' (Sink draft) (Sink draft') works of = tt
-  worked_files peer events store store' files files' works of = absurd works
+  worked_files peer events store store' files files' works of = search (rules, reads_on)
 
   leaves_same : (before : List SocketEvent) (old new : ServerState S F D) (events : List SocketEvent) → new ≡ old
       → Leaves before old.held events → Leaves before new.held events
@@ -365,9 +339,7 @@ module _ {S F D : Type 0} (meaning : StoreMeaning S D) (sources : SourceMeaning 
 
   pending_later : (event : SocketEvent) (events : List SocketEvent) (pending : Option (Endpoint × List ℕ))
       → PendingIn events pending → PendingIn (event ∷ events) pending
-  pending_later event events None in_it = tt
-  pending_later event events (Some pending) in_it =
-      contains_later event (Received requests pending.0 pending.1) events in_it
+  pending_later event events pending in_it = search (rules, contains_later)
 
   pending_added : (events later : List SocketEvent) → Adds events later → (pending : Option (Endpoint × List ℕ))
       → PendingIn events pending → PendingIn later pending
@@ -385,12 +357,7 @@ module _ {S F D : Type 0} (meaning : StoreMeaning S D) (sources : SourceMeaning 
   still : {before : List SocketEvent} {s t : LoopState S F D} → AreLeaving before s → t.requests ≡ s.requests
       → t.server.config ≡ s.server.config → PendingIn t.events t.pending → Leaves before t.server.held t.events
       → AreLeaving before t
-  still are port config pending leaves = record {
-    requests_at = port ∙ are.requests_at;
-    block = ap largest_block config ∙ are.block;
-    pending = pending;
-    leaves = leaves;
-  }
+  still are port config pending leaves = search rules
 
   module _ (old : ServerState S F D) (from : Endpoint) (bytes : List ℕ) (es : List SocketEvent)
       (received : Contains es (Received requests from bytes)) (root_is : meaning.root old.store ≡ root)
@@ -410,8 +377,7 @@ module _ {S F D : Type 0} (meaning : StoreMeaning S D) (sources : SourceMeaning 
         → ServesRead sources agreed from mode count retries source rest e
         → (text : List ℕ) × GivesInTurn sources source text rest
     served_given [] mode count retries source rest e serves = (serves.0, Gave_more Gave_nothing serves.3)
-    served_given (known ∷ others) mode count retries source rest e serves =
-        ([], subst (λ (f : F). GivesInTurn sources source [] f) (sym serves.0) Gave_nothing)
+    served_given (known ∷ others) mode count retries source rest e serves = ([], rw (serves.0) Gave_nothing)
 
     module _ (repeated : Bool) (decoded : Option Packet) (says : Decodes bytes decoded) where
       abbrev ask : Ask
@@ -421,32 +387,23 @@ module _ {S F D : Type 0} (meaning : StoreMeaning S D) (sources : SourceMeaning 
           → IsFor es transfer × (transfer.end.position.last_sent_to ≡ from)
           × IsSaid (Asked from es) transfer.end.position.last_sent
       opened_for transfer (To_read path mode options agreed file rest is opened same serves files) =
-          let most = agreed_within options kinds.Read file.length old.config.limits agreed
-          (within options kinds.Read mode file.length old.config.limits agreed same) in
+          let most = agreed_within options kinds.Read file.length old.config.limits agreed (within options kinds.Read
+          mode file.length old.config.limits agreed same) in
           let fits : Fits (size agreed) = omega (arith, most, block_is) in
-          let asked = reads_by old.config.limits old.config.cap (length old.held) repeated bytes decoded path mode options
+          let asked = reads_by old.config.limits old.config.cap (length old.held) repeated bytes decoded path mode
+          options
           is in
           let spells : Spells (Read asked.request) bytes = rw (asked.packet) at says in
           let opens : sources.opens root path asked.request.mode file.length file.source =
           rw (asked.same_mode) (rw root_is at opened) in
           let given = served_given agreed mode file.length old.config.retries file.source rest transfer.end serves in
-          let asks : AsksOf from es = record {
-            request = asked.request;
-            bytes = bytes;
-            spells = spells;
-            received = received;
-            path = path;
-            named = asked.same_path;
-            first = file.source;
-            stated = file.length;
-            opened = opens;
-          } in
+          let asks : AsksOf from es = search in
           let reads : ReadsFor from es rest = record { asks = asks; text = given.0; given = given.1 } in
           let opened_now : ReadsFor from es file.source = record { asks = asks; text = []; given = Gave_nothing } in
-          let begins = serves_begins Fits (Asked from es) old.config.retries from sources agreed mode file.length file.source
-          rest transfer.end fits
-          (λ piece gave long. gives_asked from es file.source rest piece opened_now gave (omega (arith, long, fits)))
-          serves in (
+          let begins = serves_begins Fits (Asked from es) old.config.retries from sources agreed mode file.length
+          file.source
+          rest transfer.end fits (λ piece gave long. gives_asked from es file.source rest piece opened_now gave (omega
+          (arith, long, fits))) serves in (
             record {
               peer = from;
               at_peer = begins.at;
@@ -457,8 +414,8 @@ module _ {S F D : Type 0} (meaning : StoreMeaning S D) (sources : SourceMeaning 
             begins.at.said,
           )
       opened_for transfer (To_write agreed mode draft end files) =
-          let begins = subst (BeginsAt Fits (Asked from es) old.config.retries from) (sym end)
-          (write_begins Fits (Asked from es) old.config.retries from agreed mode) in (
+          let begins = subst (BeginsAt Fits (Asked from es) old.config.retries from) (sym end) (write_begins Fits (Asked
+          from es) old.config.retries from agreed mode) in (
             record {
               peer = from;
               at_peer = begins.at;
@@ -496,43 +453,36 @@ module _ {S F D : Type 0} (meaning : StoreMeaning S D) (sources : SourceMeaning 
   step_leaves : (before : List SocketEvent) (s t : LoopState S F D) → LoopStep meaning sources s t → AnswersWithinRequest
       → meaning.root s.server.store ≡ root → AreLeaving before s → AreLeaving before t
   step_leaves before s t (Waited d) within root_is are =
-      subst (AreLeaving before) (sym d.is)
-      (still are refl refl (pending_added s.events _ (record { more = _ ∷ _ ∷ _ ∷ []; is = refl }) s.pending are.pending)
-      (leaves_event before s.server.held _ _ tt (leaves_event before s.server.held _ _ tt
-      (leaves_event before s.server.held _ s.events tt are.leaves))))
+      subst (AreLeaving before) (sym d.is) (still are refl refl (pending_added _ _ (record {
+        more = _ ∷ _ ∷ _ ∷ [];
+        is
+            = refl;
+      }) _ are.pending) (leaves_event _ _ _ _ tt (leaves_event _ _ _ _ tt (leaves_event _ _ _ _ tt are.leaves))))
   step_leaves before s t (At_port d) within root_is are =
-      subst (AreLeaving before) (sym d.is)
-      (still are refl (same_config d.does)
-      (pending_added s.events d.next.events
-      (port_adds meaning sources s.now (port_state s d.timer) d.next d.does) s.pending are.pending)
-      (port_leaves before s.now (port_state s d.timer) d.next d.does are.leaves))
+      subst (AreLeaving before) (sym d.is) (still are refl (same_config d.does) (pending_added _ _ (port_adds _ _ _ _ _
+      d.does) _ are.pending) (port_leaves _ _ _ _ d.does are.leaves))
   step_leaves before s t (Request_received d) within root_is are =
-      subst (AreLeaving before) (sym d.is)
-      (still are refl refl
-      (subst (λ (port : ℕ). Contains (Received port d.from d.bytes ∷ s.events) (Received requests d.from d.bytes))
-      (sym are.requests_at) (contains_first (Received requests d.from d.bytes) s.events))
-      (leaves_event before s.server.held (Received s.requests d.from d.bytes) s.events tt are.leaves))
+      subst (AreLeaving before) (sym d.is) (still are refl refl (subst (λ port. Contains (Received port d.from d.bytes ∷
+      s.events) (Received requests d.from d.bytes)) (sym are.requests_at) (contains_first (Received requests d.from
+      d.bytes) s.events)) (leaves_event _ _ _ _ tt are.leaves))
   step_leaves before s t (Request_answered d) within root_is are =
-      let received : Contains s.events (Received requests d.from d.bytes) =
-      subst (PendingIn s.events) d.pending are.pending in
-      subst (AreLeaving before) (sym (answer_is d))
-      (by_came before s d.from d.bytes d.tid are received root_is within d.steps.repeated d.steps.decoded d.steps.says
-      d.steps.came (opens_for meaning sources s.server d.from d.bytes _ d.steps.came d.steps.goes))
+      let received = subst (PendingIn s.events) d.pending are.pending in
+      subst (AreLeaving before) (sym (answer_is d)) (by_came before s d.from d.bytes d.tid are received root_is within
+      d.steps.repeated d.steps.decoded d.steps.says d.steps.came (opens_for meaning sources s.server d.from d.bytes _
+      d.steps.came d.steps.goes))
   step_leaves before s t (Request_lost d) within root_is are =
       subst (AreLeaving before) (sym d.is) (still are refl refl tt are.leaves)
   step_leaves before s t (Store_set d) within root_is are =
       subst (AreLeaving before) (sym d.is) (still are refl refl are.pending are.leaves)
   step_leaves before s t (Transfer_closed d) within root_is are =
-      subst (AreLeaving before) (sym d.is)
-      (still are refl refl (pending_later _ s.events s.pending are.pending)
-      (leaves_event before (without d.timer.port s.server.held) _ s.events tt (record {
-        transfers = held_without (IsFor s.events) d.timer.port s.server.held are.leaves.transfers;
+      subst (AreLeaving before) (sym d.is) (still are refl refl (pending_later _ _ _ are.pending) (leaves_event _ _ _ _
+      tt (record {
+        transfers = held_without (IsFor s.events) d.timer.port _ are.leaves.transfers;
         only = are.leaves.only;
       })))
   step_leaves before s t does within root_is are =
-      subst (AreLeaving before) (sym (state_is does))
-      (still are refl refl (pending_later _ s.events s.pending are.pending)
-      (leaves_event before s.server.held _ s.events tt are.leaves))
+      subst (AreLeaving before) (sym (state_is does)) (still are refl refl (pending_later _ _ _ are.pending)
+      (leaves_event _ _ _ _ tt are.leaves))
 
   leaves_along : (before : List SocketEvent) (s t : LoopState S F D) → AnswersWithinRequest
       → HasRoot meaning sources root s

@@ -46,3 +46,4 @@ pub mod OpenedEnds
 pub mod Reflecting
 pub mod AskedFiles
 pub mod Leaving
+pub mod WitnessPort

@@ -1,7 +1,8 @@
 -- A port of a transfer that is not marked is drained, or is left for a while. For Sleeping.
-use Rattle.tftp_loop.proofs.Common.{arith, ◌≡◌, ◌≤◌, ◌<◌, ◌==◌, ◌||◌, ◌&&◌, ◌+◌, ◌⊎◌, not, ℕ, Bool, true, false, List}
-use Rattle.tftp_loop.proofs.Common.{◌∷◌, length, map, inl, inr, refl, sym, ap, subst, ◌∙◌, slice_index_or, All, ◌≢◌}
-use Rattle.tftp_loop.proofs.Common.{is_some, swap_remove, length-map, SourceMeaning, wait_of, StoreMeaning, deadline_of}
+use Rattle.std.proofs.Common.{rules}
+use Rattle.tftp_loop.proofs.Common.{arith, ◌≡◌, ◌≤◌, ◌<◌, ◌==◌, ◌&&◌, ◌+◌, ◌⊎◌, not, ℕ, Bool, true, false, List, ◌∷◌}
+use Rattle.tftp_loop.proofs.Common.{length, map, refl, sym, ap, subst, ◌∙◌, slice_index_or, All, ◌≢◌, is_some}
+use Rattle.tftp_loop.proofs.Common.{swap_remove, length-map, SourceMeaning, wait_of, StoreMeaning, deadline_of}
 use Rattle.tftp_loop.proofs.Common.{SocketEvent, Watch, Watched, Quiet, is_among, is_drained, Timer, PortState}
 use Rattle.tftp_loop.proofs.Common.{LoopState, PortStep, LoopStep, deadline_by, marked_by, port_state, restarted}
 use Rattle.tftp_loop.proofs.Common.{set_by, timeouts_after, timer_after, wait_in, A_datagram, Nothing_found, A_timeout}
@@ -11,11 +12,11 @@ use Rattle.tftp_loop.proofs.Common.{HavePortsApart}
 use Rattle.std.specs.Prelude.{◌*◌}
 use Rattle.tftp_sockets.specs.Trace.QuietEvent.{Slept, Woke}
 use Rattle.tftp_loop.specs.Steps.{look_after, next_look}
-use Rattle.tftp_loop.proofs.BackoffLemmas.{wait_least, wait_most}
-use Rattle.tftp_loop.proofs.Drained.{either_drained, other_drained, port_drained, replied_drained}
+use Rattle.tftp_loop.proofs.BackoffLemmas.{wait_most}
+use Rattle.tftp_loop.proofs.Drained.{either_drained, port_drained, replied_drained}
 use Rattle.tftp_loop.proofs.LoopStays.{all_opened, if_any, other_port, removed_all, replaced_all}
 use Rattle.tftp_loop.proofs.NoteLemmas.{note_drained}
-use Rattle.tftp_loop.proofs.PortStays.{or_left, or_right, own_receive}
+use Rattle.tftp_loop.proofs.PortStays.{own_receive}
 use Rattle.tftp_loop.proofs.Waits.{mapped_at}
 use Rattle.tftp_loop.proofs.NewStates.{same_noted, state_is, timer_is}
 
@@ -34,38 +35,23 @@ pub data IsLooked (events : List SocketEvent) (now : ℕ) (timer : Timer) : Type
 -- a port without a mark is drained, or looked at soon
 pub looked_at_rest : (timer : Timer) (events : List SocketEvent) (now : ℕ) → timer.marked ≡ false → IsLooked events now timer
     → (is_drained timer.port events ≡ true) ⊎ (timer.look_at ≤ now + look_after)
-looked_at_rest timer events now unmarked (Marked m) = absurd (let e : true ≡ false = sym m ∙ unmarked in cc)
-looked_at_rest timer events now unmarked (Drained d) = inl d
-looked_at_rest timer events now unmarked (Left l) = inr l.soon
-
-short_after : (now n interval wait : ℕ) → now ≤ n → interval ≤ wait → next_look now wait ≡ deadline_of now wait
-    → deadline_of n interval ≤ n + look_after
-short_after now n interval wait h least e = omega (arith, h, least, e)
+looked_at_rest timer events now unmarked looked = search rules
 
 -- if the interval is so short, each wait is
 short_wait : (n interval wait : ℕ) → wait ≤ 8 * interval → deadline_of n interval ≤ n + look_after
     → deadline_of n wait ≤ n + look_after
 short_wait n interval wait most short = omega (arith, most, short)
 
-soon_after : (now interval : ℕ) → next_look now interval ≤ now + look_after
-soon_after now interval = omega arith
-
 -- a timer that starts, or that progress restarts
 left_now : (now : ℕ) (timer : Timer) → timer.deadline ≡ deadline_of now (wait_in timer)
     → timer.look_at ≡ next_look now (wait_in timer) → IsLeft now timer
-left_now now timer due look = record {
-  soon = let s = soon_after now (wait_in timer) in omega (arith, s, look);
-  short = λ same n h. short_after now n timer.interval (wait_in timer) h
-      (wait_least timer.backoff timer.interval timer.timeouts) (sym look ∙ (same ∙ due));
-}
+left_now now timer due look = search rules
 
 -- what an event leaves that drains no port of a transfer
 still : (es fs : List SocketEvent) (now : ℕ) (timer : Timer)
     → (is_drained timer.port es ≡ true → is_drained timer.port fs ≡ true) → IsLooked es now timer
     → IsLooked fs now timer
-still es fs now timer on (Marked m) = Marked m
-still es fs now timer on (Drained d) = Drained (on d)
-still es fs now timer on (Left l) = Left l
+still es fs now timer on looked = search rules
 
 all_still : (es fs : List SocketEvent) (now : ℕ) (timers : List Timer)
     → All (λ (timer : Timer). is_drained timer.port es ≡ true → is_drained timer.port fs ≡ true) timers
@@ -73,44 +59,22 @@ all_still : (es fs : List SocketEvent) (now : ℕ) (timers : List Timer)
 all_still es fs now timers on looked k d h = still es fs now (slice_index_or timers k d) (on k d h) (looked k d h)
 
 later : (es : List SocketEvent) (now n : ℕ) (timer : Timer) → now ≤ n → IsLooked es now timer → IsLooked es n timer
-later es now n timer h (Marked m) = Marked m
-later es now n timer h (Drained d) = Drained d
-later es now n timer h (Left l) = Left (record {
-  soon = let s = l.soon in omega (arith, s, h);
-  short = λ e m k. l.short
-      e m (omega (arith, h, k));
-})
+later es now n timer h looked = search rules
 
 after_datagram : (es : List SocketEvent) (now : ℕ) (progress : Bool) (timer : Timer)
     → IsLooked es now (timer_after now progress timer)
-after_datagram es now true timer = Left (left_now now (timer_after now true timer) refl refl)
-after_datagram es now false timer = Marked refl
+after_datagram es now progress timer = search rules
 
 after_timeout : (es fs : List SocketEvent) (now : ℕ) (again : Bool) (timer : Timer) → timer.look_at ≡ timer.deadline
     → (is_drained timer.port es ≡ true → is_drained timer.port fs ≡ true)
     → IsLooked es now timer → IsLooked fs now (restarted now again timer)
-after_timeout es fs now again timer looked on (Marked m) = Marked m
-after_timeout es fs now again timer looked on (Drained d) = Drained (on d)
-after_timeout es fs now again timer looked on (Left l) =
-    let timeouts = timeouts_after again timer.timeouts in
-    Left (record {
-      soon = short_wait now timer.interval (wait_of timer.backoff timer.interval timeouts)
-          (wait_most timer.backoff timer.interval timeouts) (l.short looked now (omega arith));
-      short = λ e n k. l.short looked n k;
-    })
+after_timeout es fs now again timer looked on before =
+    search (rules, timeouts_after, short_wait, wait_of, wait_most)
 
 -- a reading of the clock sets a provisional deadline
 set_left : (now time : ℕ) (b : Bool) (timer : Timer) → now ≤ time → IsLeft now timer
     → IsLeft time (record timer { deadline = deadline_by time b timer; provisional = false })
-set_left now time true timer h l =
-    let soon = l.soon in
-    record {
-      soon = omega (arith, soon, h);
-      short = λ e n k. let least = wait_least timer.backoff timer.interval timer.timeouts in
-          omega (arith, e, soon, h, k, least);
-    }
-set_left now time false timer h l =
-    record { soon = omega (arith, l.soon, h); short = λ e n k. l.short e n (omega (arith, h, k)) }
+set_left now time b timer h l = search rules
 
 set_looked : (es : List SocketEvent) (now : ℕ) (watch : Watch) (timer : Timer) → now ≤ watch.now → IsLooked es now timer
     → IsLooked (Watched watch ∷ es) watch.now (set_by watch.now timer)
@@ -122,21 +86,13 @@ set_looked es now watch timer h (Left l) = Left (set_left now watch.now timer.pr
 pub read_looked : (es : List SocketEvent) (now : ℕ) (watch : Watch) (timers : List Timer) → now ≤ watch.now
     → All (IsLooked es now) timers → All (IsLooked (Watched watch ∷ es) watch.now) (map (set_by watch.now) timers)
 read_looked es now watch timers h looked k d within =
-    let long = length-map timers (set_by watch.now) in
-    let inside : k < length timers = omega (arith, long, within) in
-    subst (IsLooked (Watched watch ∷ es) watch.now) (sym (mapped_at (set_by watch.now) timers k d inside))
-    (set_looked es now watch (slice_index_or timers k d) h (looked k d inside))
+    search (rules, length-map, set_by, length, mapped_at, set_looked, slice_index_or)
 
 -- a wait marks the ports that it reports
 woken : (es : List SocketEvent) (now millis : ℕ) (ports : List ℕ) (timer : Timer) (among : Bool)
     → is_among timer.port ports ≡ among → IsLooked es now timer
     → IsLooked (Quiet (Woke ports) ∷ Quiet (Slept millis) ∷ es) now (marked_by ports timer)
-woken es now millis ports timer true e h = Marked (ap (λ (b : Bool). timer.marked || b) e ∙ or_right timer.marked true
-    refl)
-woken es now millis ports timer false e (Marked m) = Marked (or_left timer.marked (is_among timer.port ports) m)
-woken es now millis ports timer false e (Drained d) = Drained
-    (ap (λ (b : Bool). not b && is_drained timer.port es) e ∙ d)
-woken es now millis ports timer false e (Left l) = Left (record { soon = l.soon; short = l.short })
+woken es now millis ports timer among e looked = search rules
 
 -- each port of a transfer is marked, drained or left for a while
 abbrev pub AreLooked : {S F D : Type 0} → LoopState S F D → Type 0
@@ -162,9 +118,7 @@ module _ {S F D : Type 0} (meaning : StoreMeaning S D) (sources : SourceMeaning 
   at_requests : (s : LoopState S F D) → All (λ (timer : Timer). timer.port ≢ s.requests) s.timers
       → All (λ (timer : Timer). is_drained timer.port s.events ≡ true
       → (not (s.requests == timer.port) && is_drained timer.port s.events) ≡ true) s.timers
-  at_requests s own k d h =
-      let port = (slice_index_or s.timers k d).port in
-      other_drained s.requests port (is_drained port s.events) (λ same. own k d h (sym same))
+  at_requests s own k d h = search rules
 
   -- a step of the loop leaves each port marked, drained or left for a while
   pub step_looked : (s t : LoopState S F D) → LoopStep meaning sources s t

@@ -1,10 +1,11 @@
 -- What happens at all ports, call by call. For seven functions and four other files.
-use Rattle.tftp_loop.proofs.Common.{outcome_of, ◌≡◌, ◌≤◌, ◌<◌, ◌-◌, ℕ, false, List, map, length, Option, Some, None}
-use Rattle.tftp_loop.proofs.Common.{IsSome, refl, sym, ap, subst, ◌∙◌, slice_set, slice_index_or, option_map, is_some}
-use Rattle.tftp_loop.proofs.Common.{if◌then◌else◌, swap_remove, SourceMeaning, Record, StoreMeaning, Outcome, record_of}
-use Rattle.tftp_loop.proofs.Common.{TransferState, ServerState, at, draft_of, taken_of, without, Port, SocketEvent}
-use Rattle.tftp_loop.proofs.Common.{TransferSocket, Run, Start, Then, Timer, PortState, LoopState, PortStep, LoopStep}
-use Rattle.tftp_loop.proofs.Common.{WorksAtPort, port_state, Work, At_port, timer_of, Work_by}
+use Rattle.std.proofs.Common.{rules}
+use Rattle.tftp_loop.proofs.Common.{◌≡◌, ◌≤◌, ◌<◌, ◌-◌, ℕ, false, List, map, length, Option, Some, None, IsSome, refl}
+use Rattle.tftp_loop.proofs.Common.{sym, ap, subst, ◌∙◌, slice_set, slice_index_or, option_map, is_some, if◌then◌else◌}
+use Rattle.tftp_loop.proofs.Common.{swap_remove, SourceMeaning, Record, StoreMeaning, Outcome, TransferState}
+use Rattle.tftp_loop.proofs.Common.{ServerState, at, taken_of, without, Port, SocketEvent, TransferSocket, Run, Start}
+use Rattle.tftp_loop.proofs.Common.{Then, Timer, PortState, LoopState, PortStep, LoopStep, WorksAtPort, port_state}
+use Rattle.tftp_loop.proofs.Common.{Work, At_port, timer_of, Work_by}
 use Rattle.std.proofs.lemmas.Bool.{false≢true}
 use Rattle.tftp_loop.specs.Steps.{Closes, watch_of}
 use Rattle.tftp_loop.specs.LoopStates.{close_reported, Works}
@@ -18,27 +19,7 @@ pub same_state : {S F D : Type 0} (s t : LoopState S F D)
     → s.requests_only ≡ t.requests_only → s.per_client ≡ t.per_client → s.server ≡ t.server → s.pending ≡ t.pending
     → s.timers ≡ t.timers → watch_of s ≡ watch_of t → s.limit ≡ t.limit → s.woken ≡ t.woken → s.marked ≡ t.marked
     → s.asked ≡ t.asked → s.drain ≡ t.drain → s.left ≡ t.left → s.rounds ≡ t.rounds → s.events ≡ t.events → s ≡ t
-same_state {S} {F} {D} s t a r o z v p b c d e l w f q n g h k = λ i. record {
-  requests = a i;
-  range = r i;
-  longest = o i;
-  backoff = z i;
-  requests_only = v i;
-  per_client = p i;
-  server = b i;
-  pending = c i;
-  timers = d i;
-  now = (e i).now;
-  reading = (e i).reading;
-  limit = l i;
-  woken = w i;
-  marked = f i;
-  asked = q i;
-  drain = n i;
-  left = g i;
-  rounds = h i;
-  events = k i;
-}
+same_state {S} {F} {D} s t a r o z v p b c d e l w f q n g h k = search rules
 
 -- a transfer that was taken closed with an outcome
 record IsTaken {F D : Type 0} (o : Option (TransferState F D)) (closed : Option Record) : Type 0 where
@@ -51,25 +32,12 @@ record IsTaken {F D : Type 0} (o : Option (TransferState F D)) (closed : Option 
 taken_so : {F D : Type 0} (o : Option (TransferState F D)) (closed : Option Record)
     → closed ≡ option_map (λ (t : Record × Option D). t.0) (taken_of o) → IsSome closed → IsTaken o closed
 taken_so None closed found some = absurd (false≢true (sym (ap is_some found) ∙ some))
-taken_so (Some held) closed found some = by (outcome_of held.end.position.phase) refl
-  where
-    by : (outcome : Option Outcome) → outcome_of held.end.position.phase ≡ outcome → IsTaken (Some held) closed
-    by None none =
-        let open_still : closed ≡ None = found ∙ rw none refl in
-        absurd (false≢true (sym (ap is_some open_still) ∙ some))
-    by (Some outcome) has = record {
-      taken = (record_of held.end, draft_of held.files);
-      is_taken = rw has refl;
-      by_close = found ∙ rw has refl;
-      outcome = outcome;
-      has_outcome = has;
-    }
+taken_so (Some held) closed found some = search rules
 
 -- what was not taken stays
 pub none_taken : {D : Type 0} (closed : Option Record) (o : Option (Record × Option D)) →
     closed ≡ option_map (λ (t : Record × Option D). t.0) o → is_some closed ≡ false → o ≡ None
-none_taken closed None e h = refl
-none_taken closed (Some t) e h = absurd (false≢true (sym h ∙ ap (λ (c : Option Record). is_some c) e))
+none_taken closed o e h = search rules
 
 module _ {S F D : Type 0} (meaning : StoreMeaning S D) (sources : SourceMeaning F) where
   -- steps of the loop one after another
@@ -92,18 +60,16 @@ module _ {S F D : Type 0} (meaning : StoreMeaning S D) (sources : SourceMeaning 
   lifted s index timer p within is Start =
       idle (ap (λ (ts : List Timer). record s { timers = ts }) (set_itself s.timers index timer is))
   lifted s index timer p within is (Then {middle} q d) =
-      Then (lifted s index timer middle within is q)
-      (Work_by (At_port (record {
-        index = index;
-        timer = middle.timer;
-        within = set_within s.timers index index middle.timer within;
-        is_timer = set_is s.timers index middle.timer;
-        next = p;
-        does = d;
-        is =
-            ap (λ (ts : List Timer). record s { server = p.server; timers = ts; events = p.events })
-            (sym (set_again s.timers index middle.timer p.timer));
-      })) tt)
+      Then (lifted s index timer middle within is q) (Work_by (At_port (search (
+        set_within s.timers index index
+            middle.timer within,
+        set_is s.timers index middle.timer,
+        ap (λ (ts : List Timer). record s {
+          server = p.server;
+          timers = ts;
+          events = p.events;
+        }) (sym (set_again s.timers index middle.timer p.timer)),
+      ))) tt)
 
   -- the same, for a list of ports
   pub at_index : (s : LoopState S F D) (ports : List (Port TransferSocket)) (index : ℕ)
@@ -113,17 +79,15 @@ module _ {S F D : Type 0} (meaning : StoreMeaning S D) (sources : SourceMeaning 
       (here meaning sources s.now server (timer_of port') es)
       → Runs s (record s { server = server; timers = map timer_of (slice_set ports index port'); events = es })
   at_index s ports index port port' server es listed within is r =
-      rw (map_set timer_of ports index port', ← listed)
-      (lifted s index (timer_of port) (here meaning sources s.now server (timer_of port') es)
-      (rw listed (map_within timer_of ports index within)) (rw listed (map_is timer_of ports index port is)) r)
+      rw (map_set timer_of ports index port', ← listed) (lifted s _ _ _ (rw listed (map_within timer_of ports index
+      within)) (rw listed (map_is timer_of ports index port is)) r)
 
   -- the file of a transfer worked
   pub works : (s : LoopState S F D) (index : ℕ) (timer : Timer) (server : ServerState S F D) → index < length s.timers →
       timer ≡ slice_index_or s.timers index timer
       → WorksAtPort meaning sources timer.port s.server server → Runs s (record s { server = server })
   works s index timer server within is w =
-      subst (λ ts. Runs s (record s { server = server; timers = ts })) (set_itself s.timers index timer is)
-      (lifted s index timer (record { server = server; timer = timer; events = s.events }) within is
+      subst (λ ts. Runs s (record s { server = server; timers = ts })) (set_itself _ _ _ is) (lifted s _ _ _ within is
       (once (Work (record { works = w; timer = refl; events = refl }))))
 
   -- a transfer that closed is taken out of the table, with its timer
@@ -151,12 +115,7 @@ module _ {S F D : Type 0} (meaning : StoreMeaning S D) (sources : SourceMeaning 
           outcome = t.outcome;
           has_outcome = t.has_outcome;
           left = some_left;
-          is = λ i. record s {
-            server = (rest ∙ ap (λ h. record s.server { held = h }) removed) i;
-            timers = swap_remove s.timers index timer;
-            left = s.left - 1;
-            events = line i;
-          };
+          is = search rules;
         },
         refl,
       )

@@ -1,7 +1,8 @@
 -- What work keeps: each transfer has its own timer, and what was read stays so. For `ServerLoop::take_round` and ten
 -- other files.
-use Rattle.tftp_loop.proofs.Common.{arith, ◌≡◌, ◌<◌, ◌≤◌, ◌==◌, ◌||◌, ◌⊎◌, ℕ, Bool, true, false, List, [], ◌∷◌, ◌++◌, length}
-use Rattle.tftp_loop.proofs.Common.{Option, None, Some, IsSome, refl, sym, ap, subst, ◌∙◌, inl, inr, slice_set}
+use Rattle.std.proofs.Common.{rules}
+use Rattle.tftp_loop.proofs.Common.{arith, ◌≡◌, ◌<◌, ◌≤◌, ◌==◌, ◌||◌, ◌⊎◌, ℕ, Bool, true, false, List, [], ◌∷◌, ◌++◌}
+use Rattle.tftp_loop.proofs.Common.{length, Option, None, Some, IsSome, refl, sym, ap, subst, ◌∙◌, slice_set}
 use Rattle.tftp_loop.proofs.Common.{slice_index_or, is_some, All, swap_remove, cases_eq, SourceMeaning, wait_of}
 use Rattle.tftp_loop.proofs.Common.{Endpoint, StoreMeaning, TransferState, at, with_new, without, Came, A_transfer}
 use Rattle.tftp_loop.proofs.Common.{left_by, SocketEvent, replied, Received, Quiet, Empty, Failed, was_tried, Run}
@@ -9,14 +10,14 @@ use Rattle.tftp_loop.proofs.Common.{Start, Then, Timer, PortState, LoopState, Lo
 use Rattle.tftp_loop.proofs.Common.{port_state, started, note_event, with_timer, Waited, At_port, Request_received}
 use Rattle.tftp_loop.proofs.Common.{No_request_found, Request_not_received, Request_noted, Request_answered}
 use Rattle.tftp_loop.proofs.Common.{Request_lost, Clock_read, Store_set, Transfer_closed, Drain_begun, reads_requests}
-use Rattle.tftp_loop.proofs.Common.{Work_by, HavePortsApart, AreKept, IsHeld, IsRead, KeepsTries, IfSome, after_request, All-push}
+use Rattle.tftp_loop.proofs.Common.{Work_by, HavePortsApart, AreKept, IsHeld, IsRead, KeepsTries, IfSome, after_request}
+use Rattle.tftp_loop.proofs.Common.{All-push}
 use Rattle.tftp_loop.specs.LoopStates.{IsWork, Works}
 use Rattle.tftp_loop.specs.MayWait.{AreTried}
-use Rattle.tftp_loop.proofs.ListLemmas.{set_long}
 use Rattle.tftp_loop.proofs.NoteLemmas.{note_tried}
-use Rattle.tftp_loop.proofs.PortStays.{StaysAt, or_right, own_receive, looks_first, replied_tries, stays_at}
-use Rattle.tftp_loop.proofs.Tables.{set_other, set_own, appended_at, appended_last, appended_long, removed_long, was_at}
-use Rattle.tftp_loop.proofs.Tables.{any_default, inserted_apart, inserted_own, removed_apart}
+use Rattle.tftp_loop.proofs.PortStays.{StaysAt, or_right, looks_first, replied_tries, stays_at}
+use Rattle.tftp_loop.proofs.Tables.{appended_at, appended_last, appended_long, removed_long, was_at, inserted_apart}
+use Rattle.tftp_loop.proofs.Tables.{inserted_own, removed_apart}
 use Rattle.tftp_loop.proofs.NewStates.{answer_is}
 
 -- ---- the timers of a list that changed
@@ -25,37 +26,11 @@ use Rattle.tftp_loop.proofs.NewStates.{answer_is}
 abbrev port_at : List Timer → ℕ → Timer → ℕ
 port_at timers k d = (slice_index_or timers k d).port
 
--- a timer was replaced by one at its port
-set_ports : (timers : List Timer) (i : ℕ) (timer next : Timer) → i < length timers →
-    timer ≡ slice_index_or timers i timer → next.port ≡ timer.port
-    → (k : ℕ) (d : Timer) → k < length timers → port_at (slice_set timers i next) k d ≡ port_at timers k d
-set_ports timers i timer next within is same k d h =
-    elim (cases_eq k i) [
-      | inl e ↦
-          ap (λ (j : ℕ). port_at (slice_set timers i next) j d) e
-          ∙ (ap (λ (t : Timer). t.port) (set_own timers i next d within)
-          ∙ (same ∙ (ap (λ (t : Timer). t.port) (is ∙ any_default timers i timer d within)
-          ∙ ap (λ (j : ℕ). port_at timers j d) (sym e))))
-      | inr apart ↦ ap (λ (t : Timer). t.port) (set_other timers i next k d apart)
-    ]
-
--- timers stay of different ports if one is replaced by one of the same port
-pub set_apart : (timers : List Timer) (i : ℕ) (timer next : Timer) → i < length timers →
-    timer ≡ slice_index_or timers i timer → next.port ≡ timer.port → HavePortsApart timers →
-    HavePortsApart (slice_set timers i next)
-set_apart timers i timer next within is same apart j k d e hj hk h =
-    let long = set_long timers i next in
-    let hj' : j < length timers = omega (arith, long, hj) in
-    let hk' : k < length timers = omega (arith, long, hk) in
-    apart j k d e hj' hk' (sym (set_ports timers i timer next within is same j d hj')
-    ∙ (h ∙ set_ports timers i timer next within is same k e hk'))
-
 -- two timers at two indices have two ports
 pub other_port : (timers : List Timer) (i : ℕ) (timer : Timer) (k : ℕ) (d : Timer) → HavePortsApart timers →
     i < length timers → timer ≡ slice_index_or timers i timer → k < length timers
     → (k ≡ i → ⊥) → port_at timers k d ≡ timer.port → ⊥
-other_port timers i timer k d apart within is h other same =
-    other (apart k i d timer h within (same ∙ ap (λ (t : Timer). t.port) is))
+other_port timers i timer k d apart within is h other same = search rules
 
 -- and if one is removed
 pub removed_apart_timers : (timers : List Timer) (i : ℕ) (timer : Timer) → i < length timers → HavePortsApart timers →
@@ -64,34 +39,20 @@ removed_apart_timers timers i timer within apart j k d e hj hk h =
     let a = was_at timers i timer j d within hj in
     let b = was_at timers i timer k e within hk in
     let same : a.index ≡ b.index =
-    apart a.index b.index d e a.within b.within (ap (λ (t : Timer). t.port) (sym (a.is d))
-    ∙ (h ∙ ap (λ (t : Timer). t.port) (b.is e))) in
+    apart a.index b.index d e a.within b.within (ap (λ t. t.port) (sym (a.is d)) ∙ (h ∙ ap (λ t. t.port) (b.is e))) in
     omega (arith, removed_long timers i timer, hj, hk, a.which, b.which, same)
 
 appended_port : (timers : List Timer) (timer : Timer) (k : ℕ) (d : Timer) → k < length (timers ++ timer ∷ [])
     → ((k < length timers) × (port_at (timers ++ timer ∷ []) k d ≡ port_at timers k d))
     ⊎ ((k ≡ length timers) × (port_at (timers ++ timer ∷ []) k d ≡ timer.port))
-appended_port timers timer k d h = elim (cases_eq k (length timers)) [
-  | inl last ↦ inr (last, ap (λ (t : Timer). t.port) (appended_last timers timer k d last))
-  | inr before ↦
-      let within : k < length timers = omega (arith, appended_long timers timer, h, before) in
-      inl (within, ap (λ (t : Timer). t.port) (appended_at timers timer k d within))
-]
+appended_port timers timer k d h =
+    search (rules, cases_eq, length, appended_last, appended_long, appended_at)
 
 -- and if one of a new port is added
 pub appended_apart : (timers : List Timer) (timer : Timer) →
     ((k : ℕ) (d : Timer) → k < length timers → port_at timers k d ≡ timer.port → ⊥) → HavePortsApart timers →
     HavePortsApart (timers ++ timer ∷ [])
-appended_apart timers timer fresh apart j k d e hj hk h = elim (appended_port timers timer j d hj) [
-  | inl a ↦ elim (appended_port timers timer k e hk) [
-    | inl b ↦ apart j k d e a.0 b.0 (sym a.1 ∙ (h ∙ b.1))
-    | inr b ↦ absurd (fresh j d a.0 (sym a.1 ∙ (h ∙ b.1)))
-  ]
-  | inr a ↦ elim (appended_port timers timer k e hk) [
-    | inl b ↦ absurd (fresh k e b.0 (sym b.1 ∙ (sym h ∙ a.1)))
-    | inr b ↦ a.0 ∙ sym b.0
-  ]
-]
+appended_apart timers timer fresh apart j k d e hj hk h = search (rules, appended_port)
 
 -- ---- what holds of each timer, after one was replaced, removed or added
 -- an option that has a value is not empty
@@ -104,15 +65,7 @@ module _ (Q : Timer → Type 0) (timers : List Timer) where
       ((k : ℕ) (d : Timer) → low ≤ k → k < length timers → (k ≡ i → ⊥) → Q (slice_index_or timers k d)) → Q next
       → (k : ℕ) (d : Timer) → low ≤ k → k < length (slice_set timers i next) →
       Q (slice_index_or (slice_set timers i next) k d)
-  all_set low i next within rest own k d hl h =
-      let long = set_long timers i next in
-      let h' : k < length timers = omega (arith, long, h) in
-      elim (cases_eq k i) [
-        | inl e ↦
-            subst Q (sym (ap (λ (j : ℕ). slice_index_or (slice_set timers i next) j d) e
-            ∙ set_own timers i next d within)) own
-        | inr apart ↦ subst Q (sym (set_other timers i next k d apart)) (rest k d hl h' apart)
-      ]
+  all_set low i next within rest own k d hl h = search rules
 
   -- and of all once that one is removed
   pub all_removed : (low i : ℕ) (timer : Timer) → low ≤ i → i < length timers →
@@ -127,8 +80,7 @@ module _ (Q : Timer → Type 0) (timers : List Timer) where
   pub replaced_all : (i : ℕ) (next : Timer) → i < length timers →
       ((k : ℕ) (d : Timer) → k < length timers → (k ≡ i → ⊥) → Q (slice_index_or timers k d)) → Q next →
       All Q (slice_set timers i next)
-  replaced_all i next within rest own k d h =
-      all_set 0 i next within (λ k d l h apart. rest k d h apart) own k d (omega arith) h
+  replaced_all i next within rest own k d h = search rules
 
   pub removed_all : (i : ℕ) (timer : Timer) → i < length timers →
       ((k : ℕ) (d : Timer) → k < length timers → (k ≡ i → ⊥) → Q (slice_index_or timers k d)) →
@@ -172,63 +124,41 @@ module _ {S F D : Type 0} (meaning : StoreMeaning S D) (sources : SourceMeaning 
       (is : timer ≡ slice_index_or s.timers index timer)
       (stays : StaysAt meaning sources (port_state s timer) next) where
     pub set_kept : AreKept s.server.held s.timers → AreKept next.server.held (slice_set s.timers index next.timer)
-    set_kept kept =
-        let own : IsHeld s.server.held timer = subst (IsHeld s.server.held) (sym is) (kept.each index timer within) in
-        let own_next : IsHeld next.server.held next.timer = record {
-          there =
-              subst (λ (p : ℕ). IsSome (at p next.server.held)) (sym stays.port)
-              (stays.held.there timer.port own.there);
-          look = stays.look own.look;
-        } in
-        record {
-          apart = set_apart s.timers index timer next.timer within is stays.port kept.apart;
-          each =
-              replaced_all (IsHeld next.server.held) s.timers index next.timer within
-              (λ k d h apart. other_held s.server.held next.server.held (slice_index_or s.timers k d)
-              (stays.held.there (slice_index_or s.timers k d).port) (kept.each k d h)) own_next;
-        }
+    set_kept kept = search rules
 
     pub set_read : All (IsRead s.events) s.timers → All (IsRead next.events) (slice_set s.timers index next.timer)
-    set_read read =
-        replaced_all (IsRead next.events) s.timers index next.timer within
-        (λ k d h apart. other_read s.events next.events (slice_index_or s.timers k d) stays.tries (read k d h))
-        (stays.read (subst (IsRead s.events) (sym is) (read index timer within)))
+    set_read read = search rules
 
   -- a transfer that closed is removed
   pub removed_held : (held : List (ℕ × TransferState F D)) (timers : List Timer) (index : ℕ) (timer : Timer) →
       index < length timers → timer ≡ slice_index_or timers index timer
       → AreKept held timers → AreKept (without timer.port held) (swap_remove timers index timer)
-  removed_held held timers index timer within is kept = record {
-    apart = removed_apart_timers timers index timer within kept.apart;
-    each =
-        removed_all (IsHeld (without timer.port held)) timers index timer within
-        (λ k d h apart.
-        let t = slice_index_or timers k d in
-        other_held held (without timer.port held) t
-        (λ some. ap is_some (removed_apart timer.port t.port
-        (other_port timers index timer k d kept.apart within is h apart) held) ∙ some)
-        (kept.each k d h));
-  }
+  removed_held held timers index timer within is kept = assumption (
+    removed_apart_timers timers index timer within
+        kept.apart,
+    removed_all (IsHeld (without timer.port held)) timers index timer within (λ k d h apart. let t =
+        slice_index_or timers k d in other_held held (without timer.port held) t (λ some. ap is_some (removed_apart
+        timer.port t.port (other_port timers index timer k d kept.apart within is h apart) held) ∙ some)
+        (kept.each k d h)),
+  )
 
   -- a transfer opens
   opened_kept : (held : List (ℕ × TransferState F D)) (timers : List Timer) (timer : Timer)
       (transfer : TransferState F D) → at timer.port held ≡ None → timer.look_at ≤ timer.deadline
       → AreKept held timers → AreKept (with_new timer.port transfer held) (timers ++ timer ∷ [])
   opened_kept held timers timer transfer free look kept =
-      let fresh : (k : ℕ) (d : Timer) → k < length timers → port_at timers k d ≡ timer.port → ⊥ =
-      λ k d h e. some_none (at (slice_index_or timers k d).port held) (kept.each k d h).there
-      (ap (λ (p : ℕ). at p held) e ∙ free) in
-      record {
-        apart = appended_apart timers timer fresh kept.apart;
-        each =
-            All-push (IsHeld (with_new timer.port transfer held)) timers timer
-            (λ k d h.
-            let t = slice_index_or timers k d in
-            other_held held (with_new timer.port transfer held) t
-            (λ some. ap is_some (inserted_apart timer.port t.port (fresh k d h) transfer held) ∙ some)
-            (kept.each k d h))
-            (record { there = ap is_some (inserted_own timer.port transfer held); look = look });
-      }
+      let fresh : (k : ℕ) (d : Timer) → k < length timers → port_at timers k d ≡ timer.port → ⊥ = search rules steps
+      300000 in
+      search (
+        appended_apart timers timer fresh kept.apart,
+        All-push (IsHeld (with_new timer.port transfer held))
+            timers timer (λ k d h. let t = slice_index_or timers k d in other_held held (with_new timer.port transfer
+            held) t (λ some. ap is_some (inserted_apart timer.port t.port (fresh k d h) transfer held) ∙ some)
+            (kept.each k d h)) (record {
+              there = ap is_some (inserted_own timer.port transfer held);
+              look = look;
+            }),
+      )
 
   abbrev AreKeptIn : LoopState S F D → Type 0
   AreKeptIn s = AreKept s.server.held s.timers
@@ -250,15 +180,7 @@ module _ {S F D : Type 0} (meaning : StoreMeaning S D) (sources : SourceMeaning 
   asks_keep : (s : LoopState S F D) (pending : Option (Endpoint × List ℕ)) (marked asked : Bool) (event : SocketEvent)
       → ((q : ℕ) → was_tried q (event ∷ s.events) ≡ ((s.requests == q) || was_tried q s.events))
       → Keeps s (record s { pending = pending; marked = marked; asked = asked; events = event ∷ s.events })
-  asks_keep s pending marked asked event reads =
-      let tries : KeepsTries s.events (event ∷ s.events) =
-      λ q h. reads q ∙ or_right (s.requests == q) (was_tried q s.events) h in
-      record {
-        tries = tries;
-        kept = λ h. h;
-        read = λ h k e l m. tries (slice_index_or s.timers k e).port (h k e l m);
-        tried = λ h m. reads s.requests ∙ own_receive s.requests (was_tried s.requests s.events);
-      }
+  asks_keep s pending marked asked event reads = search rules
 
   step_keeps : (s t : LoopState S F D) (does : LoopStep meaning sources s t) → IsWork meaning sources does → Keeps s t
   step_keeps s t (Waited d) work = absurd work

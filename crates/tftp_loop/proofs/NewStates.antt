@@ -1,12 +1,13 @@
 -- What a step leaves, whichever it is: the state of the loop, or the trace, timer and server of a port. By this one
 -- clause of a proof is for all steps that it need not tell apart. For 18 other files and three crates.
+use Rattle.std.proofs.Common.{rules}
 use Rattle.tftp_loop.proofs.Common.{◌≡◌, ℕ, List, refl, SourceMeaning, StoreMeaning, ServerState, SocketEvent, Timer}
 use Rattle.tftp_loop.proofs.Common.{PortState, LoopState, PortStep, LoopStep, Waited, At_port, Request_received}
 use Rattle.tftp_loop.proofs.Common.{No_request_found, Request_not_received, Request_noted, Request_answered}
 use Rattle.tftp_loop.proofs.Common.{Request_lost, Clock_read, Store_set, Transfer_closed, Drain_begun, A_datagram}
 use Rattle.tftp_loop.proofs.Common.{A_lost_datagram, A_late_datagram, Nothing_found, A_failed_receive, A_timeout}
-use Rattle.tftp_loop.proofs.Common.{A_missed_timeout, Work, ap, ◌∙◌, ◌∷◌, Option, Some, None, Endpoint, Reply, answered}
-use Rattle.tftp_loop.proofs.Common.{replied, Received, Elapsed, after_request, AnswersRequest, left_by}
+use Rattle.tftp_loop.proofs.Common.{A_missed_timeout, Work, ap, ◌∙◌, ◌∷◌, Option, Endpoint, Reply, answered, replied}
+use Rattle.tftp_loop.proofs.Common.{Received, Elapsed, after_request, AnswersRequest, left_by}
 use Rattle.tftp_sockets.specs.Trace.SocketEvent.{Sent}
 
 -- what says nothing of the datagrams that were sent
@@ -17,13 +18,11 @@ IgnoresSent f =
 -- says the same after an answer, whether there is one or not
 pub answered_same : {X : Type 0} (f : List SocketEvent → X) → IgnoresSent f → (port : ℕ) (reply : Option Reply)
     (events : List SocketEvent) → f (answered port reply events) ≡ f events
-answered_same f ignores port None events = refl
-answered_same f ignores port (Some reply) events = ignores port reply.to reply.bytes events
+answered_same f ignores port reply events = search rules
 
 pub replied_same : {X : Type 0} (f : List SocketEvent → X) → IgnoresSent f → (port : ℕ) (to : Option Endpoint)
     (bytes : List ℕ) (events : List SocketEvent) → f (replied port to bytes events) ≡ f events
-replied_same f ignores port None bytes events = refl
-replied_same f ignores port (Some to) bytes events = ignores port to bytes events
+replied_same f ignores port to bytes events = search rules
 
 module _ {S F D : Type 0} {meaning : StoreMeaning S D} {sources : SourceMeaning F} where
   module _ {old new : LoopState S F D} where
@@ -48,8 +47,7 @@ module _ {S F D : Type 0} {meaning : StoreMeaning S D} {sources : SourceMeaning 
 
     -- the request port stays
     pub same_requests : LoopStep meaning sources old new → new.requests ≡ old.requests
-    same_requests (Waited d) = ap (λ (s : LoopState S F D). s.requests) d.is
-    same_requests does = ap (λ (s : LoopState S F D). s.requests) (state_is does)
+    same_requests does = search rules
 
     -- after an answer it is what came of the request
     pub answer_is : (d : AnswersRequest meaning sources old new)
@@ -81,11 +79,7 @@ module _ {S F D : Type 0} {meaning : StoreMeaning S D} {sources : SourceMeaning 
     -- what ignores that answer says the same of the new trace
     pub same_noted : {X : Type 0} (f : List SocketEvent → X) → IgnoresSent f
         → (does : PortStep meaning sources now old new) → f new.events ≡ f (noted_by does)
-    same_noted f ignores (A_datagram d) =
-        ap f d.handles.events ∙ answered_same f ignores old.timer.port d.handles.takes.takes.turn.reply _
-    same_noted f ignores (A_timeout d) =
-        ap f d.times_out.events ∙ answered_same f ignores old.timer.port _ (noted_by (A_timeout d))
-    same_noted f ignores does = ap f (trace_is does)
+    same_noted f ignores does = search rules
 
     -- the new timer, written as a change of the old one
     abbrev pub new_timer : PortStep meaning sources now old new → (timer : Timer) × (new.timer ≡ timer)

@@ -1,4 +1,5 @@
 -- A transfer that opens has not closed. For Receipts and Counting.
+use Rattle.std.proofs.Common.{rules}
 use Rattle.tftp_loop.proofs.Common.{◌≡◌, ℕ, Bool, List, Some, None, refl, sym, ap, subst, arith, ◌∙◌, inl, inr}
 use Rattle.tftp_loop.proofs.Common.{slice_index_or, All, if◌then◌else◌, SourceMeaning, Endpoint, record_of}
 use Rattle.tftp_loop.proofs.Common.{StoreMeaning, SocketEvent, at, draft_of, taken_of, with_new, Came, A_transfer}
@@ -63,10 +64,7 @@ module _ {S F D : Type 0} (meaning : StoreMeaning S D) (sources : SourceMeaning 
   pub concludes_asked : (s t : LoopState S F D) → Concludes meaning sources s t → t.asked ≡ s.asked
   concludes_asked s t c =
       let was = prepared (λ u. u.asked ≡ s.asked) (λ u events h. h) (λ u store h. h) s c.middle c.prepares refl in
-      elim c.ends [
-        | inl d ↦ ap (λ (u : LoopState S F D). u.asked) d.is ∙ was
-        | inr d ↦ ap (λ (u : LoopState S F D). u.asked) d.is ∙ was
-      ]
+      search rules
 
   -- and few datagrams stay few, since a port that opens has received none
   pub concludes_few : (most : ℕ) (s t : LoopState S F D) → Concludes meaning sources s t

@@ -1,11 +1,12 @@
 -- How the end of a transfer opens.
 -- For Bounded, Leaving, Opened and Reflecting.
-use Rattle.tftp_loop.proofs.Common.{arith, ◌≡◌, ◌≤◌, ◌*◌, ℕ, Bool, true, false, List, [], ◌∷◌, refl, sym, subst, inl}
-use Rattle.tftp_loop.proofs.Common.{inr, Result, Ok, Err, if◌then◌else◌, nat_lt, ⊤, Mode, RawOption, Known}
-use Rattle.tftp_loop.proofs.Common.{SourceMeaning, StoreFault, Source, Sink, EndState, ServesRead, serving_write}
-use Rattle.tftp_loop.proofs.Common.{block_length, Endpoint, ErrorReply, StoreMeaning, Opening, Ask, Ignores, Refuses}
-use Rattle.tftp_loop.proofs.Common.{Reads, Writes, Refused, Sends, Came, Goes, Nothing, Error_reply, A_transfer, Sent}
-use Rattle.tftp_loop.proofs.Common.{Taken, TransferState, ServerState, An_ack, A_block, is_some, outcome_of}
+use Rattle.std.proofs.Common.{rules}
+use Rattle.tftp_loop.proofs.Common.{arith, ◌≡◌, ◌≤◌, ℕ, Bool, true, false, List, [], ◌∷◌, refl, sym, subst, inl, inr}
+use Rattle.tftp_loop.proofs.Common.{Result, Ok, Err, if◌then◌else◌, nat_lt, ⊤, Mode, RawOption, Known, SourceMeaning}
+use Rattle.tftp_loop.proofs.Common.{StoreFault, Source, Sink, EndState, ServesRead, serving_write, block_length}
+use Rattle.tftp_loop.proofs.Common.{Endpoint, ErrorReply, StoreMeaning, Opening, Ask, Reads, Refused, Sends, Came, Goes}
+use Rattle.tftp_loop.proofs.Common.{Nothing, Error_reply, A_transfer, Sent, Taken, TransferState, ServerState, An_ack}
+use Rattle.tftp_loop.proofs.Common.{A_block, is_some, outcome_of}
 use Rattle.std.specs.Prelude.{length}
 use Rattle.tftp_negotiate.specs.Agreed.{size}
 use Rattle.tftp_negotiate.specs.Answer.{answer}
@@ -15,8 +16,7 @@ use Rattle.tftp_negotiate.specs.declared.refusal.Refusal.{Refusal}
 use Rattle.tftp_ends.specs.Opening.{serving_read}
 use Rattle.tftp_ends.specs.declared.error_reply.ErrorReply.TheVariants.{FileChanged, FileTooLarge}
 use Rattle.tftp_store.specs.Store.{OpensAt}
-use Rattle.tftp_server.specs.Port.{accept_reply, begin_reply}
-use Rattle.tftp_server.specs.Port.{by_draft, by_file, by_length, open_reply}
+use Rattle.tftp_server.specs.Port.{by_draft, by_file, by_length}
 use Rattle.tftp_server.specs.Request.{Starts, opened_length}
 use Rattle.tftp_loop.specs.Leaving.{An_oack}
 use Rattle.tftp_loop.proofs.AnsweringEnds.{IsAt}
@@ -133,28 +133,19 @@ module _ {S F D : Type 0} (meaning : StoreMeaning S D) (sources : SourceMeaning 
           → answer options kinds.Read mode file.length old.config.limits ≡ result
           → Sent meaning sources old from bytes (by_length path mode file.length result) (Ok file) came
           → OpensIn ask came
-      answered (Err refusal) same h = refused (accept_reply refusal) old.store h
-      answered (Ok agreed) same h = fits agreed same (nat_lt file.length (65535 * size agreed)) h
+      answered result same h = search (rules, refused, fits, nat_lt)
 
     found : (file : Result (Opening F) StoreFault) → OpensAt sources (meaning.root old.store) path mode file
         → Sent meaning sources old from bytes (by_file old.config.limits path mode options (opened_length file)) file came
         → OpensIn ask came
-    found (Err fault) opened h = refused (open_reply fault) old.store h
-    found (Ok file) opened h =
-        answered file opened (answer options kinds.Read mode file.length old.config.limits) refl h
+    found file opened h = search (rules, refused, answered)
 
   begun : (ask : Ask) (path : List ℕ) (mode : Mode) (agreed : List Known) (draft : Result D StoreFault) (store : S)
       (came : Came S F D) → Taken meaning sources old from bytes (by_draft path mode agreed draft) draft store came
       → OpensIn ask came
-  begun ask path mode agreed (Err fault) store came h =
-      came_as ask came (Error_reply (begin_reply fault) store) h tt
+  begun ask path mode agreed (Err fault) store came h = came_as _ _ _ h tt
   begun ask path mode agreed (Ok draft) store came h = came_as ask came _ h (To_write agreed mode draft refl refl)
 
   -- so opens each transfer that opens
   pub opens_for : (ask : Ask) (came : Came S F D) → Goes meaning sources old from bytes ask came → OpensIn ask came
-  opens_for Ignores came goes = came_as Ignores came Nothing goes tt
-  opens_for (Refuses reply) came goes = came_as (Refuses reply) came (Error_reply reply old.store) goes tt
-  opens_for (Reads path mode options) came goes =
-      found (Reads path mode options) path mode options refl came goes.file goes.opened goes.goes_on
-  opens_for (Writes path mode agreed) came goes =
-      begun (Writes path mode agreed) path mode agreed goes.draft goes.store came goes.goes_on
+  opens_for ask came goes = search (rules, came_as, found, begun)

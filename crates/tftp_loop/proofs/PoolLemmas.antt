@@ -1,9 +1,8 @@
 -- Which ports an order has. For four functions.
-use Rattle.tftp_loop.proofs.Common.{arith, ◌≡◌, ◌≤◌, ◌<◌, ◌+◌, ◌-◌, ◌==◌, ◌||◌, ℕ, zero, suc, Bool, true, false, List}
-use Rattle.tftp_loop.proofs.Common.{[], ◌∷◌, ◌++◌, length, Option, Some, None, ap, refl, sym, subst, ◌∙◌, All, IfSome}
-use Rattle.tftp_loop.proofs.Common.{range_with_len, SocketEvent, Quiet, is_among, Start, Then, IsOneOf, coming}
-use Rattle.tftp_loop.proofs.Common.{drawn_from, TriesPorts, PortRange}
-use Rattle.std.proofs.Common.{eq-eqb}
+use Rattle.tftp_loop.proofs.Common.{arith, ◌≡◌, ◌≤◌, ◌<◌, ◌+◌, ◌-◌, ℕ, zero, suc, true, List, [], ◌∷◌, ◌++◌, length}
+use Rattle.tftp_loop.proofs.Common.{Option, Some, None, ap, refl, sym, subst, All, IfSome, range_with_len, SocketEvent}
+use Rattle.tftp_loop.proofs.Common.{Quiet, is_among, Start, Then, IsOneOf, coming, drawn_from, TriesPorts, PortRange}
+use Rattle.std.proofs.Common.{rules}
 use Rattle.std.specs.Prelude.{IsPermutation, IsSome, MatchOption}
 use Rattle.std.proofs.lemmas.List.Elements.{All-nil, All-cons, All-head, All-tail, All-same, All-append, All-push}
 use Rattle.std.proofs.lemmas.List.Sorted.{All-permutation, IsPermutation-append_comm, IsPermutation-sym}
@@ -58,16 +57,14 @@ module _ (old new : PortOrder) (port : ℕ) (has : HasPorts old) (uses : UsesNex
   pub next_has_ports : HasPorts new
   next_has_ports = record {
     all =
-        let was : IsPermutation (ports_of old.range) (port ∷ uses.others) =
-        subst (λ (xs : List ℕ). IsPermutation (ports_of old.range) xs) uses.was has.all in
+        let was = subst (λ (xs : List ℕ). IsPermutation (ports_of old.range) xs) uses.was has.all in
         let moved = IsPermutation-trans (ports_of old.range) (port ∷ uses.others) (uses.others ++ port ∷ []) was
         (IsPermutation-append_comm (port ∷ []) uses.others) in
         rw (uses.range, uses.is) moved;
     some = rw (uses.is) (pushed_some uses.others port);
-    each = rw (uses.range)
-        (All-same (IsOneOf (Some old.range)) (coming new) (uses.others ++ port ∷ []) uses.is
-        (All-push (IsOneOf (Some old.range)) uses.others port
-        (All-tail (IsOneOf (Some old.range)) port uses.others comes) used_within));
+    each = rw (uses.range) (All-same (IsOneOf (Some old.range)) (coming new) (uses.others ++ port ∷ []) uses.is
+        (All-push (IsOneOf (Some old.range)) uses.others port (All-tail (IsOneOf (Some old.range)) port uses.others
+        comes) used_within));
   }
 
 -- an order whose first ports are mixed has them still
@@ -101,8 +98,7 @@ same_range old new (Some port) uses = uses.range
 
 -- and the order has its ports still
 pub still_within : (old new : PortOrder) (made : Option ℕ) → HasPorts old → MayUseNext old new made → HasPorts new
-still_within old new None has uses = rw (uses.1) has
-still_within old new (Some port) has uses = next_has_ports old new port has uses
+still_within old new made has uses = search (rules, next_has_ports)
 
 -- the next port is one of the range
 pub next_within : (old new : PortOrder) (made : Option ℕ) → HasPorts old → MayUseNext old new made
@@ -117,10 +113,7 @@ next_uses old new (Some port) uses = uses
 
 -- a port comes
 pub next_some : (old new : PortOrder) (made : Option ℕ) → HasPorts old → MayUseNext old new made → IsSome made
-next_some old new None has uses =
-    let none : length (coming old) ≡ 0 = ap (λ (xs : List ℕ). length xs) uses.0 in
-    absurd (omega (arith, has.some, none))
-next_some old new (Some port) has uses = refl
+next_some old new made has uses = search rules
 
 -- ---- what the trace says of ports that were tried
 -- the port that was bound ends the tries
@@ -136,8 +129,7 @@ tried_more port es fs gs within is tries = Then tries (record { port = port; wit
 -- if all were missed with it, no try bound a socket
 pub in_vain : {range : Option PortRange} (port : ℕ) (es fs gs : List SocketEvent) → IsOneOf range port
     → gs ≡ Quiet (No_socket port) ∷ fs → TriesPorts range es fs → AreAllMissed range gs → TriesInVain range es gs
-in_vain port es fs gs within is tries missed =
-    record { between = fs; earlier = tries; last = record { port = port; within = within; is = is }; missed = missed }
+in_vain port es fs gs within is tries missed = search rules
 
 -- without an order one port is tried
 pub tries_any : (es fs : List SocketEvent) (made : Option ServerSocket) → fs ≡ after_bind 0 made es
@@ -150,20 +142,12 @@ tries_any es fs (Some socket) is = binds socket.port es es fs is Start
 abbrev pub IsMissed : List SocketEvent → ℕ → Type 0
 IsMissed events port = is_among port (missed_last events) ≡ true
 
-either_true : (b : Bool) → (b || true) ≡ true
-either_true true = refl
-either_true false = refl
-
 module _ (port : ℕ) (es fs : List SocketEvent) (is : fs ≡ Quiet (No_socket port) ∷ es) where
   missed_still : (p : ℕ) → IsMissed es p → IsMissed fs p
-  missed_still p h =
-      subst (λ (gs : List SocketEvent). IsMissed gs p) (sym is)
-      (ap (λ (b : Bool). (port == p) || b) h ∙ either_true (port == p))
+  missed_still p h = search rules
 
   missed_now : IsMissed fs port
-  missed_now =
-      subst (λ (gs : List SocketEvent). IsMissed gs port) (sym is)
-      (ap (λ (b : Bool). b || is_among port (missed_last es)) (eq-eqb port port refl))
+  missed_now = search rules
 
   -- all that were missed, and this one
   pub missed_more : (ports : List ℕ) → All (IsMissed es) ports → All (IsMissed fs) (ports ++ port ∷ [])
@@ -180,7 +164,6 @@ pub all_missed : (range : PortRange) (before used after : List ℕ) (es : List S
 all_missed range before used after es has last whole all =
     let many = rest_long before used after last in
     let none : length last.rest ≡ 0 = omega (arith, many, whole) in
-    let come : All (IsMissed es) after =
-    All-same (IsMissed es) after used (last.is ∙ ap (λ (xs : List ℕ). xs ++ used) (none_left last.rest none)) all in
-    All-permutation (IsMissed es) after (ports_of range)
-    (IsPermutation-sym (ports_of range) after (IsPermutation-trans (ports_of range) before after has last.all)) come
+    let come : All (IsMissed es) after = search (rules, none_left) in
+    All-permutation (IsMissed es) after (ports_of range) (IsPermutation-sym (ports_of range) after (IsPermutation-trans
+    (ports_of range) before after has last.all)) come

@@ -1,45 +1,30 @@
 -- How many datagrams of a port the trace has between two waits. For `a_server_receives_few_between_waits`.
+use Rattle.std.proofs.Common.{rules}
 use Rattle.tftp_loop.proofs.Common.{arith, ◌≡◌, ◌≤◌, ◌<◌, ◌+◌, ◌*◌, ℕ, Bool, true, false, List, [], ◌∷◌, length, Option}
-use Rattle.tftp_loop.proofs.Common.{Some, None, refl, sym, ap, subst, ◌∙◌, inl, inr, All, if◌then◌else◌, is_some}
-use Rattle.tftp_loop.proofs.Common.{slice_index_or, slice_set, cases_eq, eq-eqb, ne_eqb, SourceMeaning, Endpoint, at}
-use Rattle.tftp_loop.proofs.Common.{StoreMeaning, SocketEvent, Received, AreKept, Run, Start, Then, Timer, PortState}
-use Rattle.tftp_loop.proofs.Common.{LoopState, PortStep, LoopStep, RequestNote, Found_no_port, Found_port}
-use Rattle.tftp_loop.proofs.Common.{Found_no_memory, note_event, port_state, Waited, At_port, Request_received}
-use Rattle.tftp_loop.proofs.Common.{Request_noted, Request_answered, Request_lost, Transfer_closed, A_datagram}
-use Rattle.tftp_loop.proofs.Common.{A_lost_datagram, A_late_datagram, answering_port}
+use Rattle.tftp_loop.proofs.Common.{refl, sym, ap, subst, ◌∙◌, inl, inr, All, if◌then◌else◌, is_some, slice_index_or}
+use Rattle.tftp_loop.proofs.Common.{slice_set, cases_eq, SourceMeaning, Endpoint, at, StoreMeaning, Received, AreKept}
+use Rattle.tftp_loop.proofs.Common.{Run, Start, Then, Timer, PortState, LoopState, PortStep, LoopStep, RequestNote}
+use Rattle.tftp_loop.proofs.Common.{note_event, port_state, Waited, At_port, Request_received, Request_noted}
+use Rattle.tftp_loop.proofs.Common.{Request_answered, Request_lost, Transfer_closed, A_datagram, A_lost_datagram}
+use Rattle.tftp_loop.proofs.Common.{A_late_datagram, answering_port}
 use Rattle.tftp_loop.specs.Fair.{ReceivesFewAtAPort, received_since, since_by}
 use Rattle.tftp_loop.proofs.Bounded.{sound_along}
-use Rattle.tftp_loop.proofs.Counting.{AreFew, IsFew, few_along, port_few}
+use Rattle.tftp_loop.proofs.Counting.{AreFew, few_along}
 use Rattle.tftp_loop.proofs.LoopStays.{all_opened, if_any, other_port, removed_all, replaced_all}
 use Rattle.tftp_loop.proofs.PortEnds.{same_timer}
 use Rattle.tftp_loop.proofs.PortStays.{after_received}
-use Rattle.tftp_loop.proofs.NewStates.{replied_same, same_noted, same_requests, state_is, timer_is}
+use Rattle.tftp_loop.proofs.NewStates.{replied_same, same_noted, same_requests, state_is}
 
 abbrev one : Bool → ℕ
 one true = 1
 one false = 0
 
-none_more : (n : ℕ) → 0 + n ≡ n
-none_more n = omega arith
-
 -- ---- the events of one step
-module _ (port : ℕ) where
-  one_more : (p : ℕ) (from : Endpoint) (bytes : List ℕ) (es : List SocketEvent) → p ≡ port →
-      received_since port (Received p from bytes ∷ es) ≡ 1 + received_since port es
-  one_more p from bytes es same = ap (λ (b : Bool). (if b then 1 else 0) + received_since port es) (eq-eqb p port same)
-
-  no_more : (p : ℕ) (from : Endpoint) (bytes : List ℕ) (es : List SocketEvent) → (p ≡ port → ⊥) →
-      received_since port (Received p from bytes ∷ es) ≡ received_since port es
-  no_more p from bytes es apart =
-      ap (λ (b : Bool). (if b then 1 else 0) + received_since port es) (ne_eqb p port apart)
-      ∙ none_more (received_since port es)
 
 module _ {S F D : Type 0} (meaning : StoreMeaning S D) (sources : SourceMeaning F) where
   note_since : {s : LoopState S F D} {from : Endpoint} {bytes : List ℕ} (n : ℕ)
       (note : RequestNote meaning sources s from bytes) → since_by (note_event note) n ≡ n
-  note_since n (Found_no_port opens port within) = refl
-  note_since n (Found_port opens port within) = refl
-  note_since n (Found_no_memory lacks) = refl
+  note_since n note = search rules
 
   module _ (port : ℕ) where
     -- the timer of the port counts what is received there, and no other does
@@ -50,25 +35,17 @@ module _ {S F D : Type 0} (meaning : StoreMeaning S D) (sources : SourceMeaning 
 
     adds_one : (s t : PortState S F D) (from : Endpoint) (bytes : List ℕ) → t.timer.received ≡ s.timer.received + 1
         → received_since port t.events ≡ received_since port (Received s.timer.port from bytes ∷ s.events) → Adds s t
-    adds_one s t from bytes counted events = record {
-      own = λ same. omega (arith, counted, events, one_more port s.timer.port from bytes s.events same);
-      other = λ apart. events ∙ no_more port s.timer.port from bytes s.events apart;
-    }
+    adds_one s t from bytes counted events = search rules
 
     adds : (now : ℕ) (s t : PortState S F D) → PortStep meaning sources now s t → Adds s t
-    adds now s t (A_datagram d) =
-        adds_one s t d.from d.bytes (ap (λ (u : Timer). u.received) d.timer ∙ after_received now d.step.progress s.timer)
-        (same_noted (received_since port) (λ p t bs es. refl) (A_datagram d))
+    adds now s t (A_datagram d) = search (rules, adds_one, after_received, same_noted)
     adds now s t (A_lost_datagram d) =
         adds_one s t d.from d.bytes (ap (λ (u : Timer). u.received) d.timer) (ap (received_since port) d.events)
     adds now s t (A_late_datagram d) =
         adds_one s t d.from d.bytes (ap (λ (u : Timer). u.received) d.timer) (ap (received_since port) d.events)
     adds now s t does =
         let events = same_noted (received_since port) (λ p t bs es. refl) does in
-        record {
-          own = λ same. omega (arith, ap (λ (u : Timer). u.received) (timer_is does), events);
-          other = λ apart. events;
-        }
+        search rules
 
     -- ---- the steps of the loop
     module _ (base : ℕ) where
@@ -86,17 +63,7 @@ module _ {S F D : Type 0} (meaning : StoreMeaning S D) (sources : SourceMeaning 
       -- the port, the pending datagram and the timers are as before
       as_before : (s t : LoopState S F D) → t.pending ≡ s.pending → t.asked ≡ s.asked → t.timers ≡ s.timers
           → received_since port t.events ≡ received_since port s.events → Counted s → Counted t
-      as_before s t pending asked timers events c = record {
-        opened = c.opened;
-        few =
-            let p = ap (λ (o : Option (Endpoint × List ℕ)). one (is_some o)) pending in
-            let a = ap one asked in
-            omega (arith, p, a, c.few);
-        all = let all = c.all in omega (arith, events, all);
-        each =
-            subst (λ (ts : List Timer). All (Counts (received_since port t.events) c.opened) ts) (sym timers)
-            (subst (λ (n : ℕ). All (Counts n c.opened) s.timers) (sym events) c.each);
-      }
+      as_before s t pending asked timers events c = search rules
 
       set_counted : (s : LoopState S F D) (index : ℕ) (timer : Timer) (next : PortState S F D) →
           index < length s.timers → timer ≡ slice_index_or s.timers index timer
@@ -111,9 +78,7 @@ module _ {S F D : Type 0} (meaning : StoreMeaning S D) (sources : SourceMeaning 
           let added = adds s.now (port_state s timer) next does in
           let own : Counts (received_since port s.events) c.opened timer =
           subst (Counts (received_since port s.events) c.opened) (sym is) (c.each index timer within) in
-          let short : next.timer.received ≤ 64 =
-          port_few meaning sources s.now (port_state s timer) next does
-          (subst (IsFew meaning sources) (sym is) (few index timer within)) in
+          let short : next.timer.received ≤ 64 = search rules in
           let n = received_since port next.events in
           elim (cases_eq timer.port port) [
             | inl at ↦
@@ -125,8 +90,7 @@ module _ {S F D : Type 0} (meaning : StoreMeaning S D) (sources : SourceMeaning 
                   few = c.few;
                   all = omega (arith, now, short);
                   each =
-                      replaced_all (Counts n c.opened) s.timers index next.timer within
-                      (λ k d h apart there.
+                      replaced_all (Counts n c.opened) s.timers index next.timer within (λ k d h apart there.
                       absurd (other_port s.timers index timer k d kept.apart within is h apart (there ∙ sym at)))
                       (λ there. now);
                 }
@@ -137,45 +101,23 @@ module _ {S F D : Type 0} (meaning : StoreMeaning S D) (sources : SourceMeaning 
                   few = c.few;
                   all = omega (arith, unchanged, c.all);
                   each =
-                      replaced_all (Counts n c.opened) s.timers index next.timer within
-                      (λ k d h other there. let was = c.each k d h there in omega (arith, unchanged, was))
-                      (λ there. absurd (apart (sym (same_timer does).port ∙ there)));
+                      replaced_all (Counts n c.opened) s.timers index next.timer within (λ k d h other there. let was
+                      = c.each k d h there in omega (arith, unchanged, was)) (λ there. absurd (apart (sym (same_timer
+                      does).port ∙ there)));
                 }
           ]
 
-      pending_few : (o : Option (Endpoint × List ℕ)) → one (is_some o) ≤ 1
-      pending_few None = omega arith
-      pending_few (Some p) = omega arith
-
       step_counted : (s t : LoopState S F D) → LoopStep meaning sources s t → (port ≡ s.requests → ⊥)
           → AreKept s.server.held s.timers → AreFew meaning sources s → Counted s → Counted t
-      step_counted s t (Waited d) own kept few c =
-          subst Counted (sym d.is) (record {
-            opened = 0;
-            few = let pending = pending_few s.pending in omega (arith, pending);
-            all = omega arith;
-            each = λ k e h there. omega arith;
-          })
+      step_counted s t (Waited d) own kept few c = search rules
       step_counted s t (At_port d) own kept few c =
-          subst Counted (sym d.is) (set_counted s d.index d.timer d.next d.within d.is_timer d.does kept few c)
-      step_counted s t (Request_received d) own kept few c =
-          let events = no_more port s.requests d.from d.bytes s.events (λ e. own (sym e)) in
-          let none = ap (λ (o : Option (Endpoint × List ℕ)). one (is_some o)) d.none in
-          let first = ap one d.first in
-          let before = c.few in
-          let all = c.all in
-          subst Counted (sym d.is) (record {
-            opened = c.opened;
-            few = omega (arith, before, none, first);
-            all = omega (arith, events, all);
-            each = λ k e h there. let was = c.each k e h there in omega (arith, events, was);
-          })
+          subst Counted (sym d.is) (set_counted s _ _ _ d.within d.is_timer d.does kept few c)
+      step_counted s t (Request_received d) own kept few c = search rules
       step_counted s t (Request_noted d) own kept few c =
-          subst Counted (sym d.is)
-          (as_before s _ refl refl refl (note_since (received_since port s.events) d.note) c)
+          subst Counted (sym d.is) (as_before s _ refl refl refl (note_since (received_since port s.events) d.note) c)
       step_counted s t (Request_answered d) own kept few c =
-          let events = replied_same (received_since port) (λ p t bs es. refl)
-          (answering_port s.requests d.left.opened.tid) d.left.opened.to d.left.sent s.events in
+          let events = replied_same (received_since port) (λ p t bs es. refl) (answering_port s.requests
+          d.left.opened.tid) d.left.opened.to d.left.sent s.events in
           let pending = ap (λ (o : Option (Endpoint × List ℕ)). one (is_some o)) d.pending in
           let before = c.few in
           subst Counted (sym d.is) (record {
@@ -183,21 +125,20 @@ module _ {S F D : Type 0} (meaning : StoreMeaning S D) (sources : SourceMeaning 
             few = omega (arith, before, pending);
             all = omega (arith, events, c.all);
             each =
-                all_opened (Counts _ (c.opened + 1)) s d.from d.left.opened.tid d.left.new.held
-                (λ k e h there. let was = c.each k e h there in omega (arith, events, was))
-                (if_any d.left.opened.tid (λ tid there. omega (arith, events, c.all)));
+                all_opened (Counts _ (c.opened + 1)) s d.from d.left.opened.tid d.left.new.held (λ k e h there. let was
+                = c.each k e h there in omega (arith, events, was)) (if_any d.left.opened.tid (λ tid there. omega
+                (arith, events, c.all)));
           })
       step_counted s t (Request_lost d) own kept few c =
-          subst Counted (sym d.is) (record { opened = c.opened; few = omega (arith, c.few); all = c.all; each = c.each })
-      step_counted s t (Transfer_closed d) own kept few c =
           subst Counted (sym d.is) (record {
             opened = c.opened;
-            few = c.few;
+            few = omega (arith, c.few);
             all = c.all;
-            each =
-                removed_all (Counts (received_since port s.events) c.opened) s.timers d.index d.timer d.within
-                (λ k e h apart. c.each k e h);
+            each = c.each;
           })
+      step_counted s t (Transfer_closed d) own kept few c =
+          subst Counted (sym d.is) (search (removed_all (Counts (received_since port s.events) c.opened) s.timers
+          d.index d.timer d.within (λ k e h apart. c.each k e h)))
       step_counted s t does own kept few c = subst Counted (sym (state_is does)) (as_before s _ refl refl refl refl c)
 
     -- ---- along a run
@@ -208,18 +149,10 @@ module _ {S F D : Type 0} (meaning : StoreMeaning S D) (sources : SourceMeaning 
 
     counted_along : (start now : LoopState S F D) → start.timers ≡ [] → Run (LoopStep meaning sources) start now
         → (port ≡ start.requests → ⊥) → Counted (received_since port start.events) now
-    counted_along start now none Start own = record {
-      opened = 0;
-      few = let p = pending_few (received_since port start.events) start.pending in omega (arith, p);
-      all = omega arith;
-      each =
-          subst (λ (ts : List Timer). All (Counts (received_since port start.events) (received_since port start.events) 0) ts)
-          (sym none) (λ k d h. absurd (omega (arith, h)));
-    }
+    counted_along start now none Start own = search rules
     counted_along start now none (Then {middle} run does) own =
-        step_counted (received_since port start.events) middle now does
-        (λ e. own (e ∙ requests_along start middle run)) (sound_along meaning sources start middle none run).kept
-        (few_along meaning sources start middle none run) (counted_along start middle none run own)
+        step_counted (received_since port start.events) _ _ does (λ e. own (e ∙ requests_along _ _ run)) (sound_along _
+        _ _ _ none run).kept (few_along _ _ _ _ none run) (counted_along _ _ none run own)
 
   one_at_most : (b : Bool) → one b ≤ 1
   one_at_most true = omega arith

@@ -1,18 +1,16 @@
 -- What a step at a port does to the end of its transfer, and to the timer. For `ServerLoop::visit` and seven other
 -- files.
-use Rattle.tftp_loop.proofs.Common.{arith, ◌≡◌, ◌≤◌, ◌+◌, ◌*◌, ℕ, Bool, true, false, not, Option, Some, refl, sym, ap}
-use Rattle.tftp_loop.proofs.Common.{subst, ◌∙◌, inl, inr, ⊤, is_some, cases_eq, same_Some, SourceMeaning, wait_of}
-use Rattle.tftp_loop.proofs.Common.{EndState, is_progress, after_turn, timeout_turn, Step, StoreMeaning, TransferState}
-use Rattle.tftp_loop.proofs.Common.{ServerState, at, is_closed, KeepsHeld, with_end, WorksAt, deadline_of, Run, Start}
-use Rattle.tftp_loop.proofs.Common.{Then, IsTimed, Timer, PortState, PortStep, deadline_by, restarted, timeouts_after}
-use Rattle.tftp_loop.proofs.Common.{timer_after, wait_in, A_datagram, A_lost_datagram, A_timeout, A_missed_timeout}
-use Rattle.tftp_loop.proofs.Common.{Work, IsIdleAt, ReceivesNoneAt}
+use Rattle.std.proofs.Common.{rules}
+use Rattle.tftp_loop.proofs.Common.{arith, ◌≡◌, ◌≤◌, ◌+◌, ◌*◌, ℕ, Bool, true, false, not, Some, refl, sym, ap, subst}
+use Rattle.tftp_loop.proofs.Common.{◌∙◌, ⊤, is_some, same_Some, SourceMeaning, EndState, after_turn, timeout_turn}
+use Rattle.tftp_loop.proofs.Common.{StoreMeaning, TransferState, at, KeepsHeld, with_end, WorksAt, Run, Start, Then}
+use Rattle.tftp_loop.proofs.Common.{Timer, PortState, PortStep, deadline_by, restarted, timeouts_after, timer_after}
+use Rattle.tftp_loop.proofs.Common.{wait_in, A_datagram, A_lost_datagram, A_timeout, A_missed_timeout, Work, IsIdleAt}
+use Rattle.tftp_loop.proofs.Common.{ReceivesNoneAt}
 use Rattle.std.specs.Prelude.{max}
-use Rattle.tftp_ends.specs.declared.role.Role.{Role}
 use Rattle.tftp_server.specs.State.{is_open}
 use Rattle.tftp_loop.specs.Steps.{expiring}
-use Rattle.tftp_loop.proofs.EndSteps.{Moves, closed_left, datagram_left, datagram_moves, most_left, moves_limit}
-use Rattle.tftp_loop.proofs.EndSteps.{open_left, timeout_spends, timeouts_left}
+use Rattle.tftp_loop.proofs.EndSteps.{Moves, closed_left, datagram_left, datagram_moves, open_left, timeouts_left}
 use Rattle.tftp_loop.proofs.Tables.{next_found}
 use Rattle.tftp_loop.proofs.NewStates.{timer_is, server_is}
 
@@ -42,38 +40,18 @@ pub record SameTimer (timer timer' : Timer) : Type 0 where
   pub backoff : timer'.backoff ≡ timer.backoff
   pub age : timer'.age_limit ≡ timer.age_limit
 
-after_same : (now : ℕ) (progress : Bool) (timer : Timer) → SameTimer timer (timer_after now progress timer)
-after_same now true timer = record { port = refl; peer = refl; interval = refl; backoff = refl; age = refl }
-after_same now false timer = record { port = refl; peer = refl; interval = refl; backoff = refl; age = refl }
-
 -- the deadline is a wait away at most
 abbrev pub IsNear : ℕ → Timer → Type 0
 IsNear now timer = timer.deadline ≤ now + wait_in timer * 1000
 
-after_near : (now : ℕ) (progress : Bool) (timer : Timer) → IsNear now timer
-    → IsNear now (timer_after now progress timer)
-after_near now true timer near =
-    let wait = wait_of timer.backoff timer.interval 0 in
-    (let h : deadline_of now wait ≤ now + wait * 1000 = omega arith in h)
-after_near now false timer near = near
-
 -- also once it is set
 pub set_near : (now time : ℕ) (b : Bool) (timer : Timer) → now ≤ time → IsNear now timer
     → deadline_by time b timer ≤ time + wait_in timer * 1000
-set_near now time true timer h near =
-    let own : deadline_of time (wait_in timer) ≤ time + wait_in timer * 1000 = omega arith in
-    omega (arith, own, near, h)
-set_near now time false timer h near = omega (arith, near, h)
+set_near now time b timer h near = search rules
 
 -- a deadline that was set now is a wait away
 pub expiring_near : (now timeouts : ℕ) (timer : Timer) → IsNear now (expiring now timeouts timer)
-expiring_near now timeouts timer =
-    let wait = wait_of timer.backoff timer.interval timeouts in
-    (let h : deadline_of now wait ≤ now + wait * 1000 = omega arith in h)
-
--- and timed
-pub restarted_timed : (now : ℕ) (again : Bool) (timer : Timer) → IsTimed now (restarted now again timer)
-restarted_timed now again timer = record { due = inr refl; look = inr (inl refl) }
+expiring_near now timeouts timer = search rules
 
 -- ---- retries
 -- an end has this limit of retries, and no more left
@@ -84,10 +62,7 @@ pub record HasLimit (retries : ℕ) (e : EndState) : Type 0 where
 -- a step leaves it
 pub limit_moves : (retries : ℕ) (e e' : EndState) → e'.role ≡ e.role → Moves e e'.position → HasLimit retries e
     → HasLimit retries e'
-limit_moves retries e e' role moves limit =
-    let own = limit.role in
-    let fewer = moves_limit e e'.position moves (omega (arith, own, limit.left)) in
-    record { role = ap (λ (r : Role). r.retries) role ∙ own; left = omega (arith, fewer, own) }
+limit_moves retries e e' role moves limit = search rules
 
 -- as many timeouts are over and left as there are retries, and one more, at most
 abbrev pub HasSpent : ℕ → Timer → EndState → Type 0
@@ -100,49 +75,17 @@ spent_after false timeouts = omega arith
 module _ {Idle Silent : Type 0} {now : ℕ} {timer timer' : Timer} {e e' : EndState} where
   -- a step leaves the deadline a wait away at most
   pub changes_near : Changes Idle Silent now timer timer' e e' → IsNear now timer → IsNear now timer'
-  changes_near (By_datagram progress handled idle silent is) near = rw is (after_near now progress timer near)
-  changes_near (By_timeout again some end is) near =
-      rw is (expiring_near now (timeouts_after again timer.timeouts) timer)
-  changes_near (By_late_timeout end none is) near = rw is (expiring_near now timer.timeouts timer)
-  changes_near (By_nothing end deadline wait timeouts provisional) near =
-      omega (arith, near, deadline, ap (λ (i : ℕ). i * 1000) wait)
+  changes_near changes near = search rules
 
   -- the limit of retries
   pub changes_limit : Changes Idle Silent now timer timer' e e' → (retries : ℕ) → HasLimit retries e
       → HasLimit retries e'
-  changes_limit (By_datagram progress handled idle silent is) retries limit =
-      limit_moves retries e e' handled.role handled.moves limit
-  changes_limit (By_timeout again some end is) retries limit =
-      rw end (limit_moves retries e (after_turn e (timeout_turn e)) refl (timeout_spends e).moves limit)
-  changes_limit (By_late_timeout end none is) retries limit = rw end limit
-  changes_limit (By_nothing end deadline wait timeouts provisional) retries limit = rw end limit
+  changes_limit changes retries limit = search rules
 
   -- and no more timeouts, those that are over and those that are left
   pub changes_spent : Changes Idle Silent now timer timer' e e' → (retries : ℕ) → HasLimit retries e'
       → HasSpent retries timer e → HasSpent retries timer' e'
-  changes_spent (By_datagram true handled idle silent is) retries limit spent =
-      omega (
-        arith,
-        ap (λ (t : Timer). t.timeouts) is,
-        most_left e'.position.phase e'.position.retries_left retries limit.left,
-      )
-  changes_spent (By_datagram false handled idle silent is) retries limit spent =
-      omega (arith, ap (λ (t : Timer). t.timeouts) is, handled.left refl, spent)
-  changes_spent (By_timeout again some end is) retries limit spent =
-      let same : timer'.timeouts ≡ timeouts_after again timer.timeouts = ap (λ (t : Timer). t.timeouts) is in
-      let more = spent_after again timer.timeouts in
-      let left : timeouts_left e' ≡ timeouts_left (after_turn e (timeout_turn e)) = ap timeouts_left end in
-      elim (cases_eq (timeouts_left e') 0) [
-        | inl none ↦ omega (arith, same, more, some, none, spent)
-        | inr other ↦
-            let spends : timeouts_left (after_turn e (timeout_turn e)) + 1 ≤ timeouts_left e =
-            (timeout_spends e).left (omega (arith, other, left)) in
-            omega (arith, same, more, left, spends, spent)
-      ]
-  changes_spent (By_late_timeout end none is) retries limit spent =
-      omega (arith, ap (λ (t : Timer). t.timeouts) is, ap timeouts_left end, spent)
-  changes_spent (By_nothing end deadline wait timeouts provisional) retries limit spent =
-      omega (arith, timeouts, ap timeouts_left end, spent)
+  changes_spent changes retries limit spent = search rules
 
 closed_by : (b : Bool) → not b ≡ false → b ≡ true
 closed_by true h = refl
@@ -153,17 +96,11 @@ module _ {S F D : Type 0} {meaning : StoreMeaning S D} {sources : SourceMeaning 
   where
     -- a step at a port leaves port, interval and age limit of its timer
     pub same_timer : PortStep meaning sources now old new → SameTimer old.timer new.timer
-    same_timer (A_datagram d) = rw (d.timer) (after_same now d.step.progress old.timer)
-    same_timer does =
-        rw (timer_is does) (record { port = refl; peer = refl; interval = refl; backoff = refl; age = refl })
+    same_timer does = search rules
 
     -- the configuration never changes
     pub same_config : PortStep meaning sources now old new → new.server.config ≡ old.server.config
-    same_config (A_datagram d) = d.handles.config
-    same_config (A_lost_datagram d) = d.loses.config
-    same_config (A_timeout d) = ap (λ (s : ServerState S F D). s.config) d.times_out.rest
-    same_config (Work d) = d.works.config
-    same_config does = ap (λ (s : ServerState S F D). s.config) (server_is does)
+    same_config does = search rules
 
 module _ {S F D : Type 0} (meaning : StoreMeaning S D) (sources : SourceMeaning F) where
   -- a run at a port leaves the configuration of the server
@@ -186,9 +123,8 @@ module _ {S F D : Type 0} (meaning : StoreMeaning S D) (sources : SourceMeaning 
   at_transfer now old new (A_datagram d) transfer found =
       let takes = d.handles.takes in
       let step = takes.takes in
-      let own : takes.transfer ≡ transfer = same_Some takes.transfer transfer (sym takes.found ∙ found) in
-      let progress : d.step.progress ≡ is_progress takes.transfer.end.position.phase step.turn.position.phase =
-      ap (λ (s : Step). s.progress) step.reports in
+      let own = same_Some takes.transfer transfer (sym takes.found ∙ found) in
+      let progress = ap (λ s. s.progress) step.reports in
       let handled : HandledSo takes.transfer.end takes.next.end d.step.progress =
       rw (step.carries.state) (record {
         role = refl;
@@ -197,53 +133,43 @@ module _ {S F D : Type 0} (meaning : StoreMeaning S D) (sources : SourceMeaning 
       }) in
       record {
         next = takes.next;
-        found = next_found old.timer.port old.server.held new.server.held takes.transfer takes.next takes.found
-            takes.held;
+        found = next_found _ _ _ _ _ takes.found takes.held;
         changes = rw (← own) (By_datagram d.step.progress handled (λ h. h) (λ h. h) d.timer);
       }
   at_transfer now old new (A_lost_datagram d) transfer found =
-      let keeps =
-      subst (λ (o : Option (TransferState F D)). KeepsHeld meaning sources old.timer.port o old.server new.server)
-      found d.loses.keeps in
+      let keeps = subst (λ o. KeepsHeld meaning sources old.timer.port o old.server new.server) found d.loses.keeps in
       record {
         next = keeps.0;
-        found = next_found old.timer.port old.server.held new.server.held transfer keeps.0 found keeps.2;
-        changes = By_nothing keeps.1.end (ap (λ (t : Timer). t.deadline) d.timer) (ap wait_in d.timer)
-            (ap (λ (t : Timer). t.timeouts) d.timer) (ap (λ (t : Timer). t.provisional) d.timer);
+        found = next_found _ _ _ _ _ found keeps.2;
+        changes = By_nothing keeps.1.end (ap (λ t. t.deadline) d.timer) (ap wait_in d.timer) (ap (λ t. t.timeouts)
+            d.timer) (ap (λ t. t.provisional) d.timer);
       }
   at_transfer now old new (A_timeout d) transfer found =
       let t = d.times_out.times_out in
-      let own : t.transfer ≡ transfer = same_Some t.transfer transfer (sym t.found ∙ found) in
+      let own = same_Some t.transfer transfer (sym t.found ∙ found) in
       record {
         next = with_end t.end t.transfer;
-        found = next_found old.timer.port old.server.held new.server.held t.transfer
-            (with_end t.end t.transfer) t.found t.held;
-        changes = subst (λ (u : TransferState F D). Changes ⊤ ⊤ now old.timer new.timer u.end t.end) own
-            (By_timeout (is_some d.step.to) (open_left t.transfer.end.position.phase
-            t.transfer.end.position.retries_left t.still) t.carries.state d.timer);
+        found = next_found _ _ _ _ _ t.found t.held;
+        changes = subst (λ u. Changes ⊤ ⊤ now old.timer new.timer u.end t.end) own (By_timeout (is_some d.step.to)
+            (open_left _ t.transfer.end.position.retries_left t.still) t.carries.state d.timer);
       }
   at_transfer now old new (A_missed_timeout d) transfer found = record {
     next = transfer;
-    found = ap (λ (s : ServerState S F D). at old.timer.port s.held) d.server ∙ found;
-    changes = By_late_timeout refl
-        (closed_left transfer.end.position.phase transfer.end.position.retries_left
-        (closed_by (is_closed transfer) (ap (λ (o : Option (TransferState F D)). is_open o) (sym found) ∙ d.closed)))
-        d.timer;
+    found = ap (λ s. at old.timer.port s.held) d.server ∙ found;
+    changes = By_late_timeout refl (closed_left _ transfer.end.position.retries_left (closed_by _ (ap (λ o. is_open o)
+        (sym found) ∙ d.closed))) d.timer;
   }
   at_transfer now old new (Work d) transfer found =
-      let works =
-      subst (λ (o : Option (TransferState F D)). WorksAt meaning sources old.timer.port o old.server new.server)
-      found d.works.works in
+      let works = subst (λ o. WorksAt meaning sources old.timer.port o old.server new.server) found d.works.works in
       record {
         next = works.0;
-        found = next_found old.timer.port old.server.held new.server.held transfer works.0 found works.2;
-        changes = By_nothing (ap (λ (t : TransferState F D). t.end) works.1.rest)
-            (ap (λ (t : Timer). t.deadline) d.timer) (ap wait_in d.timer) (ap (λ (t : Timer). t.timeouts) d.timer)
-            (ap (λ (t : Timer). t.provisional) d.timer);
+        found = next_found _ _ _ _ _ found works.2;
+        changes = By_nothing (ap (λ t. t.end) works.1.rest) (ap (λ t. t.deadline) d.timer) (ap wait_in d.timer)
+            (ap (λ t. t.timeouts) d.timer) (ap (λ t. t.provisional) d.timer);
       }
   at_transfer now old new does transfer found = record {
     next = transfer;
-    found = ap (λ (s : ServerState S F D). at old.timer.port s.held) (server_is does) ∙ found;
-    changes = By_nothing refl (ap (λ (t : Timer). t.deadline) (timer_is does)) (ap wait_in (timer_is does))
-        (ap (λ (t : Timer). t.timeouts) (timer_is does)) (ap (λ (t : Timer). t.provisional) (timer_is does));
+    found = ap (λ s. at old.timer.port s.held) (server_is does) ∙ found;
+    changes = By_nothing refl (ap (λ t. t.deadline) (timer_is does)) (ap wait_in (timer_is does)) (ap (λ t. t.timeouts)
+        (timer_is does)) (ap (λ t. t.provisional) (timer_is does));
   }

@@ -1,13 +1,11 @@
 -- A server's calls and its socket's datagrams, as steps at a port. For `PortVisit::answer`, `time_out` and Unclosed.
-use Rattle.tftp_loop.proofs.Common.{◌≡◌, ℕ, List, Option, Some, None, IsSome, refl, sym, ap, ◌∙◌, option_map, is_some}
-use Rattle.tftp_loop.proofs.Common.{none-some, same_Some, SourceMeaning, Endpoint, Step, EndState, outcome_of, Reply}
-use Rattle.tftp_loop.proofs.Common.{lent, timeout_turn, StoreMeaning, TransferState, ServerState, at, taken_of}
-use Rattle.tftp_loop.proofs.Common.{KeepsHeld, with_end, SocketEvent, replied, answered}
-use Rattle.std.proofs.Common.{Bor}
+use Rattle.tftp_loop.proofs.Common.{◌≡◌, ℕ, List, Option, Some, IsSome, refl, sym, ap, ◌∙◌, option_map, is_some}
+use Rattle.tftp_loop.proofs.Common.{SourceMeaning, Endpoint, Step, EndState, outcome_of, lent, StoreMeaning}
+use Rattle.tftp_loop.proofs.Common.{TransferState, ServerState, at, taken_of, KeepsHeld, with_end, SocketEvent, replied}
+use Rattle.std.proofs.Common.{Bor, rules}
 use Rattle.std.specs.Option.{UnwrapsOrElse}
 use Rattle.tftp_ends.specs.declared.outgoing.Outgoing.{Outgoing}
 use Rattle.tftp_ends.specs.Shortage.{AppendsNothing}
-use Rattle.tftp_ends.specs.Step.{reply_bytes}
 use Rattle.tftp_server.specs.Steps.{TakesDatagramLent, TimesOutLent, DatagramFaultLent}
 use Rattle.tftp_server.specs.Shortage.{LacksMemoryAt}
 use Rattle.tftp_server.specs.declared.fault.ServerFault.{ServerFault}
@@ -15,21 +13,11 @@ use Rattle.tftp_server.specs.declared.fault.ServerFault.TheVariants.{Memory}
 use Rattle.tftp_loop.specs.Steps.{AnswersDatagram, LosesDatagram, AnswersTimeout}
 use Rattle.tftp_loop.proofs.Tables.{next_found}
 
--- the answer that an end lends, sent to the endpoint of the step, is the reply of its turn
-pub answered_lent : (port : ℕ) (reply : Option Reply) (to : Option Endpoint) (bytes : List ℕ) (events : List SocketEvent)
-    → to ≡ option_map (λ (r : Reply). r.to) reply → bytes ≡ reply_bytes reply →
-    replied port to bytes events ≡ answered port reply events
-answered_lent port None to bytes events t b = ap (λ (o : Option Endpoint). replied port o bytes events) t
-answered_lent port (Some r) to bytes events t b =
-    ap (λ (o : Option Endpoint). replied port o bytes events) t
-    ∙ ap (λ (bs : List ℕ). replied port (Some r.to) bs events) b
-
 -- the bytes that were lent, or none
 pub bytes_lent : (o : Option (Bor (List ℕ))) (P : Bor (List ℕ) → Type 0) (r : Bor (List ℕ)) (m : Option (List ℕ))
     (xs : List ℕ)
     → option_map (λ (b : Bor (List ℕ)). b.now) o ≡ m → m ≡ Some xs → UnwrapsOrElse o P r → r.now ≡ xs
-bytes_lent None P r m xs e f u = absurd (none-some xs (e ∙ f))
-bytes_lent (Some b) P r m xs e f u = ap (λ (x : Bor (List ℕ)). x.now) u ∙ same_Some b.now xs (e ∙ f)
+bytes_lent o P r m xs e f u = search rules
 
 module _ {F D : Type 0} where
   -- a transfer that closed can be taken
@@ -57,9 +45,7 @@ module _ {S F D : Type 0} (meaning : StoreMeaning S D) (sources : SourceMeaning 
         outgoing = outgoing;
         takes = takes;
         config = ap (λ (s : ServerState S F D). s.config) rest;
-        events =
-            rw (← same) at events ∙ answered_lent tid takes.takes.turn.reply step.to sent before takes.takes.carries.goes
-            (lends ∙ takes.takes.carries.bytes);
+        events = search rules;
       })
 
   -- the transfer closed by the step
@@ -67,10 +53,8 @@ module _ {S F D : Type 0} (meaning : StoreMeaning S D) (sources : SourceMeaning 
       (takes : TakesDatagramLent meaning sources tid from bytes old new step outgoing)
       → IsSome step.closed → IsSome (taken_of (at port new.held))
   closed_by port from bytes same takes h =
-      rw (← same)
-      (closed_taken (at tid new.held) takes.next (found_next from bytes takes)
-      (ap (λ (e : EndState). is_some (outcome_of e.position.phase)) takes.takes.carries.state
-      ∙ sym (ap (λ (s : Step). is_some s.closed) takes.takes.reports) ∙ h))
+      rw (← same) (closed_taken _ _ (found_next _ _ takes) (ap (λ (e : EndState). is_some (outcome_of e.position.phase))
+      takes.takes.carries.state ∙ sym (ap (λ (s : Step). is_some s.closed) takes.takes.reports) ∙ h))
 
 -- a datagram was not handled
 pub lost : {S F D : Type 0} (meaning : StoreMeaning S D) (sources : SourceMeaning F) (tid port : ℕ) (from : Endpoint)
@@ -105,7 +89,5 @@ module _ {S F D : Type 0} (tid : ℕ) (old new : ServerState S F D) (step : Step
         outgoing = outgoing;
         times_out = t;
         rest = rest;
-        events =
-            rw (← same) at events ∙ answered_lent tid (timeout_turn t.transfer.end).reply step.to sent before
-            t.carries.goes (lends ∙ t.carries.bytes);
+        events = search rules;
       })

@@ -1,11 +1,11 @@
 -- What happens at the port of a transfer, call by call. For `PortVisit::answer`, `PortVisit::take_datagrams`,
 -- `PortVisit::take_timeout` and LoopRuns.
+use Rattle.std.proofs.Common.{rules}
 use Rattle.tftp_loop.proofs.Common.{◌≡◌, ◌≤◌, ◌<◌, ◌⊎◌, ℕ, true, false, List, ◌∷◌, Option, Some, None, inl, inr, refl}
-use Rattle.tftp_loop.proofs.Common.{ap, ◌∙◌, SourceMeaning, Endpoint, Step, StoreMeaning, ServerState, at, SocketEvent}
+use Rattle.tftp_loop.proofs.Common.{ap, SourceMeaning, Endpoint, Step, StoreMeaning, ServerState, at, SocketEvent}
 use Rattle.tftp_loop.proofs.Common.{Received, Elapsed, Quiet, Empty, Failed, was_tried, Run, Then, Timer, PortState}
 use Rattle.tftp_loop.proofs.Common.{PortStep, WorksAtPort, marked_as, most_in_round, restarted, timer_after, A_datagram}
-use Rattle.tftp_loop.proofs.Common.{A_lost_datagram, A_late_datagram, Nothing_found, A_failed_receive, A_timeout}
-use Rattle.tftp_loop.proofs.Common.{A_missed_timeout, Work}
+use Rattle.tftp_loop.proofs.Common.{Work}
 use Rattle.std.specs.Prelude.{MatchOption}
 use Rattle.tftp_server.specs.State.{is_open}
 use Rattle.tftp_loop.specs.Steps.{AnswersDatagram, LosesDatagram}
@@ -24,15 +24,13 @@ module _ {S F D : Type 0} (meaning : StoreMeaning S D) (sources : SourceMeaning 
   pub finds_nothing : (server : ServerState S F D) (timer timer' : Timer) (es es' : List SocketEvent) →
       es' ≡ Quiet (Empty timer.port) ∷ es → timer' ≡ marked_as false timer
       → Runs (here server timer es) (here server timer' es')
-  finds_nothing server timer timer' es es' noted timed =
-      once (Nothing_found (record { server = refl; timer = timed; events = noted }))
+  finds_nothing server timer timer' es es' noted timed = search (rules, once)
 
   -- a receive failed
   pub fails_to_receive : (server : ServerState S F D) (timer timer' : Timer) (es es' : List SocketEvent) →
       es' ≡ Quiet (Failed timer.port) ∷ es → timer' ≡ marked_as true timer
       → Runs (here server timer es) (here server timer' es')
-  fails_to_receive server timer timer' es es' noted timed =
-      once (A_failed_receive (record { server = refl; timer = timed; events = noted }))
+  fails_to_receive server timer timer' es es' noted timed = search (rules, once)
 
   -- a datagram was received, handled and answered
   pub receives : (old new : ServerState S F D) (timer timer' : Timer) (es before es' : List SocketEvent) (from : Endpoint)
@@ -58,31 +56,14 @@ module _ {S F D : Type 0} (meaning : StoreMeaning S D) (sources : SourceMeaning 
       es' ≡ before → timer' ≡ timer_after now false timer
       → Runs (here old timer es) (here new timer' es')
   receives_lost old new timer timer' es before es' from bytes in_time few noted loses same timed =
-      once (A_lost_datagram (record {
-        few = few;
-        in_time = in_time;
-        from = from;
-        bytes = bytes;
-        loses = loses;
-        timer = timed;
-        events = same ∙ noted;
-      }))
+      search (rules, once)
 
   -- a datagram was received too late, and dropped
   pub receives_late : (server : ServerState S F D) (timer timer' : Timer) (es before : List SocketEvent) (from : Endpoint)
       (bytes : List ℕ) → timer.age_limit < now → timer.received < most_in_round
       → before ≡ Received timer.port from bytes ∷ es → timer' ≡ timer_after now false timer
       → Runs (here server timer es) (here server timer' before)
-  receives_late server timer timer' es before from bytes late few noted timed =
-      once (A_late_datagram (record {
-        few = few;
-        late = late;
-        from = from;
-        bytes = bytes;
-        server = refl;
-        timer = timed;
-        events = noted;
-      }))
+  receives_late server timer timer' es before from bytes late few noted timed = search (rules, once)
 
   -- the file of the transfer worked, or did not
   pub then_works : (start : PortState S F D) (old new : ServerState S F D) (timer : Timer) (es : List SocketEvent) (tid : ℕ)
@@ -102,21 +83,6 @@ module _ {S F D : Type 0} (meaning : StoreMeaning S D) (sources : SourceMeaning 
       (λ step. AnswersTimeout port old new before es' step)
       → timer' ≡ restarted now (sends_again made) timer → Runs (here old timer es) (here new timer' es')
   elapses_either old new timer timer' es before es' tid None port due tried looked noted same here_too steps timed =
-      once (A_missed_timeout (record {
-        due = due;
-        looked = looked;
-        closed = rw here_too at steps.0;
-        server = steps.1;
-        timer = timed;
-        events = steps.2 ∙ noted ∙ ap (λ (p : ℕ). Elapsed p now ∷ es) same;
-      }))
+      search (rules, once, at)
   elapses_either old new timer timer' es before es' tid
-      (Some step) port due tried looked noted same here_too steps timed =
-      once (A_timeout (record {
-        step = step;
-        due = due;
-        tried = tried;
-        looked = looked;
-        times_out = rw (here_too, noted, same) at steps;
-        timer = timed;
-      }))
+      (Some step) port due tried looked noted same here_too steps timed = search (rules, once, at)

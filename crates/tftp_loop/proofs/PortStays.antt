@@ -1,10 +1,11 @@
 -- What a visit of one port leaves of the others. For `PortVisit::answer` and 13 other files.
-use Rattle.tftp_loop.proofs.Common.{arith, ◌≡◌, ◌≤◌, ◌==◌, ◌||◌, ℕ, Bool, true, false, List, ◌∷◌, Option, Some, None}
-use Rattle.tftp_loop.proofs.Common.{IsSome, ◌+◌, refl, sym, ap, subst, ◌∙◌, is_at, nat_cmp, eq-eqb, SourceMeaning}
-use Rattle.tftp_loop.proofs.Common.{Endpoint, wait_of, StoreMeaning, TransferState, ServerState, at, with_next}
-use Rattle.tftp_loop.proofs.Common.{KeepsHeld, WorksAt, deadline_of, SocketEvent, replied, Received, was_tried, Run}
-use Rattle.tftp_loop.proofs.Common.{Start, Then, Timer, PortState, PortStep, timer_after, A_datagram, A_lost_datagram}
-use Rattle.tftp_loop.proofs.Common.{A_timeout, A_missed_timeout, Work, IsRead, KeepsTries}
+use Rattle.std.proofs.Common.{rules}
+use Rattle.tftp_loop.proofs.Common.{arith, ◌≡◌, ◌≤◌, ◌==◌, ◌||◌, ℕ, Bool, true, false, List, Option, IsSome, ◌+◌, refl}
+use Rattle.tftp_loop.proofs.Common.{sym, ap, subst, ◌∙◌, is_at, nat_cmp, eq-eqb, SourceMeaning, Endpoint, StoreMeaning}
+use Rattle.tftp_loop.proofs.Common.{TransferState, ServerState, at, with_next, KeepsHeld, WorksAt, deadline_of}
+use Rattle.tftp_loop.proofs.Common.{SocketEvent, replied, was_tried, Run, Start, Then, Timer, PortState, PortStep}
+use Rattle.tftp_loop.proofs.Common.{timer_after, A_datagram, A_lost_datagram, A_timeout, A_missed_timeout, Work, IsRead}
+use Rattle.tftp_loop.proofs.Common.{KeepsTries}
 use Rattle.tftp_loop.specs.Steps.{next_look}
 use Rattle.std.proofs.lemmas.Map.{keys-set_value}
 use Rattle.std.proofs.lemmas.Map.Made.{IsSome-lookup_same_keys}
@@ -30,13 +31,6 @@ replied_tries port to bytes events q h = replied_same (was_tried q) (λ p t bs e
 pub own_receive : (port : ℕ) (before : Bool) → ((port == port) || before) ≡ true
 own_receive port before = or_left (port == port) before (eq-eqb port port refl)
 
--- a port whose datagram was received was read
-pub received_tried : (port : ℕ) (from : Endpoint) (bytes : List ℕ) (es before after : List SocketEvent) →
-    before ≡ Received port from bytes ∷ es → KeepsTries before after → was_tried port after ≡ true
-received_tried port from bytes es before after noted tries =
-    tries port (subst (λ (fs : List SocketEvent). was_tried port fs ≡ true) (sym noted)
-    (own_receive port (was_tried port es)))
-
 module _ {F D : Type 0} where
   -- the other transfers stay, and the one at the port stays held
   pub record StaysHeld (port : ℕ) (old new : List (ℕ × TransferState F D)) : Type 0 where
@@ -45,10 +39,7 @@ module _ {F D : Type 0} where
 
   -- the same table stays so
   pub same_held : (port : ℕ) (old new : List (ℕ × TransferState F D)) → new ≡ old → StaysHeld port old new
-  same_held port old new e = record {
-    others = λ q apart. ap (at q) e;
-    there = λ q h. subst (λ (held : List (ℕ × TransferState F D)). IsSome (at q held)) (sym e) h;
-  }
+  same_held port old new e = search rules
 
   -- a table with another transfer at the port keeps the others
   pub next_held : (port : ℕ) (old new : List (ℕ × TransferState F D)) (next : TransferState F D) →
@@ -59,14 +50,6 @@ module _ {F D : Type 0} where
         subst (λ (held : List (ℕ × TransferState F D)). IsSome (at q held)) (sym e)
         ((IsSome-lookup_same_keys (is_at (nat_cmp q)) old (with_next port next old)
         (sym (keys-set_value (is_at (nat_cmp port)) old next))).0 h);
-  }
-
-  -- what stays twice stays
-  pub held_onward : (port : ℕ) (a b c : List (ℕ × TransferState F D)) → StaysHeld port a b → StaysHeld port b c →
-      StaysHeld port a c
-  held_onward port a b c x y = record {
-    others = λ q apart. y.others q apart ∙ x.others q apart;
-    there = λ q h. y.there q (x.there q h);
   }
 
 -- ---- timers
@@ -80,8 +63,7 @@ abbrev Looks : Timer → Type 0
 Looks timer = timer.look_at ≤ timer.deadline
 
 after_looks : (now : ℕ) (progress : Bool) (timer : Timer) → Looks (timer_after now progress timer)
-after_looks now true timer = looks_first now (wait_of timer.backoff timer.interval 0)
-after_looks now false timer = omega arith
+after_looks now progress timer = search rules
 
 -- the timer after a step has the same port
 pub after_port : (now : ℕ) (progress : Bool) (timer : Timer) → (timer_after now progress timer).port ≡ timer.port
@@ -105,14 +87,12 @@ module _ {S F D : Type 0} (meaning : StoreMeaning S D) (sources : SourceMeaning 
 
   keeps_held : (port : ℕ) (o : Option (TransferState F D)) (old new : ServerState S F D) →
       KeepsHeld meaning sources port o old new → StaysHeld port old.held new.held
-  keeps_held port None old new keeps = same_server port old new keeps
-  keeps_held port (Some transfer) old new keeps = next_held port old.held new.held keeps.0 keeps.2
+  keeps_held port o old new keeps = search (rules, same_server, next_held)
 
   -- file work of one transfer leaves the others
   pub works_held : (port : ℕ) (o : Option (TransferState F D)) (old new : ServerState S F D) →
       WorksAt meaning sources port o old new → StaysHeld port old.held new.held
-  works_held port None old new works = same_server port old new works
-  works_held port (Some transfer) old new works = next_held port old.held new.held works.0 works.2
+  works_held port o old new works = search (rules, same_server, next_held)
 
   -- what a visit of a port keeps
   pub record StaysAt (old new : PortState S F D) : Type 0 where
@@ -132,16 +112,8 @@ module _ {S F D : Type 0} (meaning : StoreMeaning S D) (sources : SourceMeaning 
       → ((q : ℕ) → was_tried q (noted_by does) ≡ ((old.timer.port == q) || was_tried q old.events))
       → new.timer.port ≡ old.timer.port → StaysHeld old.timer.port old.server.held new.server.held
       → (Looks old.timer → Looks new.timer) → StaysAt old new
-  receives_at old new does reads port held look = record {
-    port = port;
-    held = held;
-    look = look;
-    tries = λ q h. keeps_noted does q (reads q ∙ or_right (old.timer.port == q) (was_tried q old.events) h);
-    read =
-        λ h. read_by old.timer new.timer new.events port
-        (keeps_noted does old.timer.port (reads old.timer.port
-        ∙ own_receive old.timer.port (was_tried old.timer.port old.events)));
-  }
+  receives_at old new does reads port held look =
+      search (rules, keeps_noted, or_right, was_tried, read_by, own_receive)
 
   -- a step at a port keeps the rest of the server
   pub stays_at : (now : ℕ) (old new : PortState S F D) → PortStep meaning sources now old new → StaysAt old new
@@ -154,54 +126,17 @@ module _ {S F D : Type 0} (meaning : StoreMeaning S D) (sources : SourceMeaning 
       receives_at old new (A_lost_datagram d) (λ q. refl) (ap (λ (t : Timer). t.port) d.timer)
       (keeps_held old.timer.port (at old.timer.port old.server.held) old.server new.server d.loses.keeps)
       (λ h. rw (d.timer) (omega arith))
-  stays_at now old new (A_timeout d) =
-      let port = ap (λ (t : Timer). t.port) d.timer in
-      record {
-        port = port;
-        held = next_held old.timer.port old.server.held new.server.held _ d.times_out.times_out.held;
-        look = λ h. rw (d.timer) (omega arith);
-        tries = keeps_noted (A_timeout d);
-        read = λ h. read_by old.timer new.timer new.events port (keeps_noted (A_timeout d) old.timer.port d.tried);
-      }
-  stays_at now old new (A_missed_timeout d) =
-      record {
-        port = ap (λ (t : Timer). t.port) d.timer;
-        held = same_server old.timer.port old.server new.server d.server;
-        look = λ h. rw (d.timer) (omega arith);
-        tries = keeps_noted (A_missed_timeout d);
-        read = λ h. rw (d.timer) (λ m. keeps_noted (A_missed_timeout d) old.timer.port (h m));
-      }
-  stays_at now old new (Work d) =
-      record {
-        port = ap (λ (t : Timer). t.port) d.timer;
-        held = works_held old.timer.port (at old.timer.port old.server.held) old.server new.server d.works.works;
-        look = λ h. rw (d.timer) h;
-        tries = keeps_noted (Work d);
-        read = λ h. rw (d.timer) (λ m. keeps_noted (Work d) old.timer.port (h m));
-      }
+  stays_at now old new (A_timeout d) = search (rules, next_held, keeps_noted, read_by)
+  stays_at now old new (A_missed_timeout d) = search rules
+  stays_at now old new (Work d) = search (rules, works_held, at, keeps_noted)
   stays_at now old new does =
       receives_at old new does (λ q. refl) (ap (λ (t : Timer). t.port) (timer_is does))
       (same_server old.timer.port old.server new.server (server_is does)) (λ h. rw (timer_is does) (omega arith))
 
   stays_onward : (a b c : PortState S F D) → StaysAt a b → StaysAt b c → StaysAt a c
-  stays_onward a b c x y = record {
-    port = y.port ∙ x.port;
-    held =
-        held_onward a.timer.port a.server.held b.server.held c.server.held x.held
-        (subst (λ (p : ℕ). StaysHeld p b.server.held c.server.held) x.port y.held);
-    look = λ h. y.look (x.look h);
-    tries = λ q h. y.tries q (x.tries q h);
-    read = λ h. y.read (x.read h);
-  }
+  stays_onward a b c x y = search rules
 
   -- so does a run at a port
   pub stays_along : (now : ℕ) (old new : PortState S F D) → Run (PortStep meaning sources now) old new → StaysAt old new
-  stays_along now old new Start = record {
-    port = refl;
-    held = same_held old.timer.port old.server.held old.server.held refl;
-    look = λ h. h;
-    tries = λ q h. h;
-    read = λ h. h;
-  }
-  stays_along now old new (Then {middle} run does) =
-      stays_onward old middle new (stays_along now old middle run) (stays_at now middle new does)
+  stays_along now old new Start = search rules
+  stays_along now old new (Then {middle} run does) = stays_onward _ _ _ (stays_along _ _ _ run) (stays_at _ _ _ does)

@@ -1,10 +1,11 @@
 -- What is received at the request port, and what becomes of it. For six functions.
-use Rattle.tftp_loop.proofs.Common.{arith, ◌≡◌, ◌||◌, ◌&&◌, not, ℕ, Bool, true, false, List, [], ◌∷◌, length, map, take}
-use Rattle.tftp_loop.proofs.Common.{min, Option, Some, None, refl, sym, ap, subst, ◌∙◌, ◌⊎◌, inl, inr, All, Result, Ok}
-use Rattle.tftp_loop.proofs.Common.{Err, SourceMeaning, Endpoint, StoreMeaning, SocketEvent, Received, Quiet, Empty}
-use Rattle.tftp_loop.proofs.Common.{Failed, was_tried, ServerLoop, LoopState, Timer, is_draining, No_request_found}
-use Rattle.tftp_loop.proofs.Common.{Request_not_received, Drain_begun, Work_by, loop_state, pending_in, state_of}
-use Rattle.tftp_loop.proofs.Common.{timer_of, timers_of, TransferState, AreSettled, IsSettled, ReceivedFew}
+use Rattle.std.proofs.Common.{rules}
+use Rattle.tftp_loop.proofs.Common.{◌≡◌, ◌||◌, ◌&&◌, not, ℕ, Bool, true, false, List, [], ◌∷◌, length, take, min}
+use Rattle.tftp_loop.proofs.Common.{Option, Some, None, refl, sym, ap, subst, ◌∙◌, ◌⊎◌, inr, All, Result, Err}
+use Rattle.tftp_loop.proofs.Common.{SourceMeaning, Endpoint, StoreMeaning, SocketEvent, Received, Quiet, Empty, Failed}
+use Rattle.tftp_loop.proofs.Common.{ServerLoop, LoopState, Timer, is_draining, No_request_found, Request_not_received}
+use Rattle.tftp_loop.proofs.Common.{Drain_begun, Work_by, loop_state, pending_in, state_of, timers_of, TransferState}
+use Rattle.tftp_loop.proofs.Common.{AreSettled, IsSettled, ReceivedFew}
 use Rattle.std.specs.Prelude.{IfErr, IsErrAnd, OnOk}
 use Rattle.std.proofs.lemmas.Bool.{cases_lt}
 use Rattle.std.proofs.lemmas.List.{take_all}
@@ -12,27 +13,20 @@ use Rattle.std.proofs.lemmas.Result.{err_from_is_err_and}
 use Rattle.tftp_sockets.specs.Trace.{QuietEvent, looked}
 use Rattle.tftp_sockets.specs.Trace.QuietEvent.{Drain_signalled}
 use Rattle.tftp_loop.specs.declared.serving.LoopFault.{LoopFault}
-use Rattle.tftp_loop.specs.WholeRun.{EndsBy, IsOver}
+use Rattle.tftp_loop.specs.WholeRun.{EndsBy}
 use Rattle.tftp_loop.specs.declared.drain.Drain.TheVariants.{Awaited, Begun}
 use Rattle.tftp_loop.specs.LoopStates.{FailsToPrint, StopsRunning, noted_at_end}
 use Rattle.tftp_loop.specs.LoopStates.{IsEmptied, WorksRound}
-use Rattle.tftp_loop.specs.MayWait.{AnswersPending, AreTried, HandlesReceived, Concluded, Kept}
-use Rattle.tftp_loop.specs.MayWait.{HasFew, HasTriedRequests, reads_of}
+use Rattle.tftp_loop.specs.MayWait.{AnswersPending, AreTried, HandlesReceived, HasFew, HasTriedRequests, reads_of}
 use Rattle.tftp_loop.proofs.LoopRuns.{Runs}
 use Rattle.tftp_loop.proofs.LoopStays.{work_keeps}
 use Rattle.tftp_loop.proofs.Opened.{concludes_asked, concludes_few, concludes_settled}
-use Rattle.tftp_loop.proofs.PortStays.{received_tried}
 use Rattle.tftp_loop.proofs.RequestRuns.{concludes_run, receives_as}
 use Rattle.tftp_loop.proofs.RunLemmas.{idle, once, onward}
 use Rattle.tftp_loop.proofs.Waits.{pending_same}
 
 take_least : {X : Type 0} (n : ℕ) (xs : List X) → take (min n (length xs)) xs ≡ take n xs
-take_least n xs = elim (cases_lt n (length xs)) [
-  | inl less ↦ ap (λ (m : ℕ). take m xs) (let least : min n (length xs) ≡ n = omega (arith, less) in least)
-  | inr more ↦
-      ap (λ (m : ℕ). take m xs) (let least : min n (length xs) ≡ length xs = omega (arith, more) in least)
-      ∙ (take_all (length xs) xs (omega arith) ∙ sym (take_all n xs more))
-]
+take_least n xs = search (rules, cases_lt, length, take, min, take_all)
 
 -- a look that found nothing, or what it is for
 pub found_nothing : (b : Bool) (event : QuietEvent) (es ns : List SocketEvent) → b ≡ false → ns ≡ looked b event es
@@ -74,33 +68,24 @@ module _ {S F D : Type 0} (meaning : StoreMeaning S D) (sources : SourceMeaning 
       → AnswersPending meaning sources from bytes old es middle ms →
       Runs meaning sources (state_of buffer old es) (loop_state None middle ms)
   answered_run buffer bytes old middle es ms from count pending same answers =
-      let whole : bytes ≡ take count buffer = same ∙ take_least count buffer in
-      let begins : state_of buffer old es ≡ loop_state (Some (from, bytes)) old es =
-      ap (λ (p : Option (Endpoint × ℕ)). loop_state (pending_in p buffer) old es) pending
-      ∙ ap (λ (bs : List ℕ). loop_state (Some (from, bs)) old es) (sym whole) in
-      subst (λ (s : LoopState S F D). Runs meaning sources s (loop_state None middle ms)) (sym begins)
-      (concludes_run meaning sources (loop_state (Some (from, bytes)) old es) (loop_state None middle ms) answers)
+      search (rules, take, take_least, state_of, loop_state, pending_in, concludes_run)
 
   -- an answer to the pending request leaves every transfer settled
   pub answered_settled : (bytes : List ℕ) (old middle : ServerLoop S F D) (es ms : List SocketEvent)
       (from : Endpoint) → AnswersPending meaning sources from bytes old es middle ms → IsSettled old → IsSettled middle
-  answered_settled bytes old middle es ms from answers settled =
-      concludes_settled meaning sources (loop_state (Some (from, bytes)) old es) (loop_state None middle ms) answers
-      settled
+  answered_settled bytes old middle es ms from answers settled = concludes_settled _ _ _ _ answers settled
 
   -- what was received is counted so
   pub answered_asked : (bytes : List ℕ) (old middle : ServerLoop S F D) (es ms : List SocketEvent)
       (from : Endpoint) → AnswersPending meaning sources from bytes old es middle ms
       → middle.sockets.has_received ≡ old.sockets.has_received
-  answered_asked bytes old middle es ms from answers =
-      concludes_asked meaning sources (loop_state (Some (from, bytes)) old es) (loop_state None middle ms) answers
+  answered_asked bytes old middle es ms from answers = search (rules, concludes_asked, loop_state)
 
   -- and the counts of datagrams
   pub answered_few : (most : ℕ) (bytes : List ℕ) (old middle : ServerLoop S F D) (es ms : List SocketEvent)
       (from : Endpoint) → AnswersPending meaning sources from bytes old es middle ms → HasFew most old
       → HasFew most middle
-  answered_few most bytes old middle es ms from answers few =
-      concludes_few meaning sources most (loop_state (Some (from, bytes)) old es) (loop_state None middle ms) answers few
+  answered_few most bytes old middle es ms from answers few = concludes_few _ _ _ _ _ answers few
 
   -- ---- a datagram was received
   module _ (before buffer : List ℕ) (old noted new : ServerLoop S F D) (es ms ns : List SocketEvent)
@@ -125,28 +110,18 @@ module _ {S F D : Type 0} (meaning : StoreMeaning S D) (sources : SourceMeaning 
         })))
 
     received_is_tried : AreTried received
-    received_is_tried m =
-        subst (λ (p : ℕ). was_tried p ms ≡ true)
-        (sym (ap (λ (d : ServerLoop S F D). d.sockets.requests.port) is))
-        (received_tried old.sockets.requests.port from (take count buffer) es ms ms events (λ q h. h))
+    received_is_tried m = search rules
 
     then_run : HandlesReceived meaning sources from count buffer noted ms new ns →
         Runs meaning sources received (state_of buffer new ns)
-    then_run (Concluded answers pending) =
-        subst (λ (s : LoopState S F D). Runs meaning sources received s) (sym (none_pending buffer new ns pending))
-        (concludes_run meaning sources received (loop_state None new ns) answers)
-    then_run (Kept e same) =
-        idle (ap (λ (d : ServerLoop S F D). state_of buffer d ns) e
-        ∙ ap (loop_state (Some (from, take count buffer)) noted) same)
+    then_run handles = search (rules, none_pending, concludes_run, loop_state, idle, state_of, take)
 
     pub handled_run : HandlesReceived meaning sources from count buffer noted ms new ns →
         WorksRound meaning sources before old es buffer new ns
     handled_run handles = onward received_run (then_run handles)
 
     pub handled_tried : HandlesReceived meaning sources from count buffer noted ms new ns → HasTriedRequests new ns
-    handled_tried handles =
-        from_state buffer new ns ((work_keeps meaning sources received (state_of buffer new ns) (then_run handles)).tried
-        received_is_tried)
+    handled_tried handles = search (rules, from_state, work_keeps, state_of, then_run, received_is_tried)
 
     -- what an answer keeps of the transfers and their timers is kept
     kept_by : (P : List (ℕ × TransferState F D) → List Timer → Type 0)
@@ -154,8 +129,7 @@ module _ {S F D : Type 0} (meaning : StoreMeaning S D) (sources : SourceMeaning 
         → P noted.server.held (timers_of noted) → P new.server.held (timers_of new))
         → HandlesReceived meaning sources from count buffer noted ms new ns
         → P old.server.held (timers_of old) → P new.server.held (timers_of new)
-    kept_by P concluded (Concluded answers pending) holds = concluded answers (rw is holds)
-    kept_by P concluded (Kept e same) holds = rw (e, is) holds
+    kept_by P concluded handles holds = search rules
 
     pub handled_settled : HandlesReceived meaning sources from count buffer noted ms new ns → IsSettled old → IsSettled new
     handled_settled = kept_by AreSettled (answered_settled (take count buffer) noted new ms ns from)
@@ -170,24 +144,15 @@ module _ {S F D : Type 0} (meaning : StoreMeaning S D) (sources : SourceMeaning 
       (event : SocketEvent) → old.pending ≡ None
       → new ≡ record old { sockets = record old.sockets { is_ready = ready } } → ns ≡ event ∷ es →
       state_of after new ns ≡ record (state_of before old es) { marked = ready; events = event ∷ es }
-  looked_state before after old new es ns ready event none is events =
-      let pending : pending_in old.pending after ≡ pending_in old.pending before =
-      ap (λ (p : Option (Endpoint × ℕ)). pending_in p after) none
-      ∙ sym (ap (λ (p : Option (Endpoint × ℕ)). pending_in p before) none) in
-      ap (λ (d : ServerLoop S F D). state_of after d ns) is
-      ∙ (λ i. record (state_of before old es) { pending = pending i; marked = ready; events = events i })
+  looked_state before after old new es ns ready event none is events = search rules
 
   -- it begins to drain
   pub drains_as : (buffer : List ℕ) (old new : ServerLoop S F D) (es ns : List SocketEvent) → old.drain ≡ Awaited
       → new ≡ record old { drain = Begun } → ns ≡ Quiet Drain_signalled ∷ es
       → Runs meaning sources (state_of buffer old es) (state_of buffer new ns)
   drains_as buffer old new es ns awaited is signalled =
-      once (Work_by (Drain_begun (record {
-        awaited = awaited;
-        is =
-            ap (λ (d : ServerLoop S F D). state_of buffer d ns) is
-            ∙ ap (state_of buffer (record old { drain = Begun })) signalled;
-      })) tt)
+      once (Work_by (Drain_begun (search (ap (λ (d : ServerLoop S F D). state_of buffer d ns) is ∙ ap (state_of buffer
+      (record old { drain = Begun })) signalled))) tt)
 
   -- a request port without a datagram is noted as empty
   pub finds_none : (before after : List ℕ) (old new : ServerLoop S F D) (es ns : List SocketEvent) →
@@ -208,29 +173,16 @@ module _ {S F D : Type 0} (meaning : StoreMeaning S D) (sources : SourceMeaning 
   fails_to_find before after old new es ns none reads is events =
       let looked = λ (ready : Bool). record old { sockets = record old.sockets { is_ready = ready } } in
       let when = reads_when (is_draining old.drain) old.sockets.is_ready reads in
-      once (Work_by (Request_not_received (record {
-        none = ap (λ (p : Option (Endpoint × ℕ)). pending_in p before) none;
-        goes_on = when.0;
-        is = looked_state before after old new es ns true _ none (is ∙ ap looked when.1) events;
-      })) tt)
-
--- how the rounds ended
-is_over : {S F D : Type 0} (buffer : List ℕ) (d : ServerLoop S F D) (events : List SocketEvent)
-    → (d.left ≡ 0) ⊎ ((d.rounds ≡ 0) ⊎ IsEmptied d) → IsOver (state_of buffer d events)
-is_over buffer d events (inl left) = inl left
-is_over buffer d events (inr (inl rounds)) = inr (inl rounds)
-is_over buffer d events (inr (inr emptied)) = inr (inr (record {
-  begun = emptied.begun;
-  none = ap (λ (p : Option (Endpoint × ℕ)). pending_in p buffer) emptied.none;
-  closed = ap (map timer_of) emptied.closed;
-}))
+      once (Work_by (Request_not_received (search (
+        ap (λ (p : Option (Endpoint × ℕ)). pending_in p before) none,
+        looked_state before after old new es ns true _ none (is ∙ ap looked when.1) events,
+      ))) tt)
 
 -- a result of the loop ends the run as its counts or its fault say
 pub ends_by : {S F D A : Type 0} (result : Result A LoopFault) (buffer : List ℕ) (d : ServerLoop S F D)
     (before events : List SocketEvent) → OnOk result ((d.left ≡ 0) ⊎ ((d.rounds ≡ 0) ⊎ IsEmptied d))
     → IfErr result (λ fault. StopsRunning fault events) → EndsBy before result (state_of buffer d events)
-ends_by (Ok done) buffer d before events ends fails = is_over buffer d events ends
-ends_by (Err fault) buffer d before events ends fails = inr fails
+ends_by result buffer d before events ends fails = search rules
 
 -- what the exit of a `?` returns
 pub returned : {T E : Type 0} (r : Result T E) (fault : E) → IsErrAnd r (λ e. e ≡ fault) → r ≡ Err fault
@@ -249,17 +201,8 @@ module _ {A : Type 0} (r : Result A LoopFault) (fault : LoopFault) (es : List So
 
 -- a server without transfers
 pub starts_settled : {S F D : Type 0} (d : ServerLoop S F D) → d.ports.items ≡ [] → IsSettled d
-starts_settled d none =
-    subst (λ (ts : List Timer). AreSettled d.server.held ts) (sym (ap (map timer_of) none)) (record {
-      kept = record {
-        apart = λ j k t u hj hk e. absurd (omega (arith, hj));
-        each = λ k t h. absurd (omega (arith, h));
-      };
-      none_closed = λ k t h. absurd (omega (arith, h));
-    })
+starts_settled d none = search rules
 
 -- a loop without ports has received nothing at any
 pub starts_few : {S F D : Type 0} (d : ServerLoop S F D) → d.ports.items ≡ [] → HasFew 0 d
-starts_few d none =
-    subst (λ (ts : List Timer). All (ReceivedFew 0) ts) (sym (ap (map timer_of) none))
-    (λ k t h. absurd (omega (arith, h)))
+starts_few d none = search rules

@@ -1,28 +1,21 @@
 -- A server sends to an endpoint at most one datagram more than its retries for each that it received from there.
 -- For the law a_server_reflects_few.
+use Rattle.std.proofs.Common.{rules, arith as std_arith}
+use Rattle.std.proofs.lemmas.Grind.{common_steps}
 use Rattle.tftp_loop.proofs.Common.{arith, ◌≡◌, ◌≤◌, ◌+◌, ◌*◌, ◌-◌, ℕ, Bool, true, false, List, [], ◌∷◌, Option}
-use Rattle.tftp_loop.proofs.Common.{Position, Some, None, refl, sym, ap, subst, ◌∙◌, inl, inr, if◌then◌else◌, All}
-use Rattle.tftp_loop.proofs.Common.{is_at, values_of, nat_cmp, cases_eq, eq-eqb, ne_eqb, SinkMeaning, SourceMeaning}
-use Rattle.tftp_loop.proofs.Common.{Files, EndState, is_progress, DatagramStep, Reply, Turn, after_turn, response_turn}
-use Rattle.tftp_loop.proofs.Common.{timeout_turn, Response, Close, Retransmit, Endpoint, Outcome, Fresh, Phase, Waiting}
-use Rattle.tftp_loop.proofs.Common.{Sending, Receiving, Dallying, Closed, StoreMeaning, Came, Nothing, Error_reply}
-use Rattle.tftp_loop.proofs.Common.{A_transfer, left_by, TransferState, ServerState, at, with_next, KeepsHeld, with_end}
-use Rattle.tftp_loop.proofs.Common.{WorksAt, Ask, Config, SocketEvent, answered, Received, Elapsed, Run, Start, Then}
-use Rattle.tftp_loop.proofs.Common.{PortState, LoopState, PortStep, LoopStep, after_request, port_state, A_datagram}
-use Rattle.tftp_loop.proofs.Common.{A_lost_datagram, A_timeout, Work, At_port, Request_received, Request_answered}
-use Rattle.tftp_loop.proofs.Common.{Transfer_closed}
+use Rattle.tftp_loop.proofs.Common.{Position, Some, None, refl, sym, ap, subst, ◌∙◌, if◌then◌else◌, All, is_at}
+use Rattle.tftp_loop.proofs.Common.{values_of, nat_cmp, SinkMeaning, SourceMeaning, Files, EndState, DatagramStep}
+use Rattle.tftp_loop.proofs.Common.{Reply, Turn, after_turn, response_turn, timeout_turn, Response, Endpoint, Outcome}
+use Rattle.tftp_loop.proofs.Common.{Phase, StoreMeaning, Came, Nothing, Error_reply, A_transfer, left_by, TransferState}
+use Rattle.tftp_loop.proofs.Common.{ServerState, at, with_next, KeepsHeld, with_end, WorksAt, Ask, Config, SocketEvent}
+use Rattle.tftp_loop.proofs.Common.{answered, Received, Elapsed, Run, Start, Then, PortState, LoopState, PortStep}
+use Rattle.tftp_loop.proofs.Common.{LoopStep, after_request, port_state, A_datagram, A_lost_datagram, A_timeout, Work}
+use Rattle.tftp_loop.proofs.Common.{At_port, Request_received, Request_answered, Transfer_closed}
 use Rattle.std.proofs.lemmas.List.Sums.{sum_by-cons}
 use Rattle.std.proofs.lemmas.Map.Entries.{sum_by-remove_entry, sum_by-set_value}
-use Rattle.std.specs.Prelude.{◌==◌}
 use Rattle.std.specs.BTreeMap.{insert_entry}
 use Rattle.std.specs.List.{sum_by}
-use Rattle.std.specs.Ordering.{match_ordering}
-use Rattle.std.specs.declared.cmp.Ordering.{Ordering}
-use Rattle.std.specs.declared.cmp.Ordering.TheVariants.{Less, Equal, Greater}
 use Rattle.tftp_ends.specs.Action.{same_endpoint, timeout_response}
-use Rattle.tftp_ends.specs.Phase.{closed}
-use Rattle.tftp_ends.specs.declared.phase.Dally.TheVariants.{Waited}
-use Rattle.tftp_ends.proofs.RunMoves.{not_below_itself}
 use Rattle.tftp_loop.specs.Reflected.{ReflectsFew, received_from, sent_to}
 use Rattle.tftp_loop.proofs.AnsweringEnds.{AnswersOne, IsAt, NoBlock, SendsTo, To_other, To_peer, datagram_answers}
 use Rattle.tftp_loop.proofs.AnsweringEnds.{timeout_answers}
@@ -39,17 +32,7 @@ insert_sum : {T : Type 0} (weight : T → ℕ) (held : List (ℕ × T)) (k : ℕ
     → sum_by weight (values_of (insert_entry nat_cmp held k v)) ≤ sum_by weight (values_of held) + weight v
 insert_sum weight [] k v = omega (arith, sum_by-cons weight v [])
 insert_sum {T} weight (e ∷ held) k v =
-    by (insert_entry nat_cmp held k v) (nat_cmp k e.0) (insert_sum weight held k v)
-  where
-    by : (later : List (ℕ × T)) (o : Ordering)
-        → sum_by weight (values_of later) ≤ sum_by weight (values_of held) + weight v
-        → sum_by weight (values_of (match_ordering o ((k, v) ∷ e ∷ held) ((e.0, v) ∷ held) (e ∷ later)))
-        ≤ sum_by weight (values_of (e ∷ held)) + weight v
-    by later Less rest = omega (arith, sum_by-cons weight v (values_of (e ∷ held)))
-    by later Equal rest =
-        omega (arith, sum_by-cons weight v (values_of held), sum_by-cons weight e.1 (values_of held))
-    by later Greater rest =
-        omega (arith, rest, sum_by-cons weight e.1 (values_of later), sum_by-cons weight e.1 (values_of held))
+    grind (std_arith, common_steps, nat_cmp, values_of, sum_by-cons, insert_sum weight held k v)
 
 -- ---- at an end
 -- the end of a server with so many retries
@@ -72,8 +55,7 @@ answer_to peer (Some reply) = one_to peer reply.to
 
 answer_once : (IsGiven : List ℕ → Type 0) (peer from : Endpoint) (reply : Option Reply) → SendsTo IsGiven from reply
     → answer_to peer reply ≤ one_to peer from
-answer_once IsGiven peer from None sends = omega arith
-answer_once IsGiven peer from (Some reply) sends = omega (arith, ap (one_to peer) sends.0)
+answer_once IsGiven peer from reply sends = search rules
 
 left_counts : (b : Bool) (retries left : ℕ) → left ≤ retries
     → (if b then left else 0) ≤ retries * (if b then 1 else 0)
@@ -101,36 +83,14 @@ one_spends {retries} {from} {e} {turn} serving limit (To_other same sends) =
     }
 one_spends {retries} {from} {e} {turn} serving limit (To_peer is answers) = record {
   serves = record { limit = limit; at = at_own answers.position };
-  costs = λ peer. omega (
-    arith,
-    ap (λ (to : Endpoint). if same_endpoint peer to then turn.position.retries_left else 0) answers.position.to,
-    left_counts (same_endpoint peer from) retries turn.position.retries_left limit.left,
-    answer_once Any peer from turn.reply answers.sends,
-  );
+  costs = search rules;
 }
 
 datagram_spends : {S K : Type 0} {sources : SourceMeaning S} {sinks : SinkMeaning K} {retries : ℕ} {from : Endpoint}
     {bytes : List ℕ} {e : EndState} {turn : Turn} {files files' : Files S K} → IsServing retries e
     → DatagramStep sources sinks from bytes e files turn files' → Spends retries from e (after_turn e turn) turn.reply
 datagram_spends {retries = retries} {e = e} {turn = turn} serving steps =
-    one_spends serving (limit_moves retries e (after_turn e turn) refl (datagram_moves steps) serving.limit)
-    (datagram_answers AnySize Any serving.at (λ s s' piece size a b gives fits long. tt) steps)
-
--- ---- a timeout
-no_progress : (phase : Phase) (outcome : Outcome) → is_progress phase (closed outcome phase) ≡ false
-no_progress (Waiting asked limit) outcome = refl
-no_progress (Sending terms number) outcome = rw (not_below_itself number) refl
-no_progress (Receiving terms number) outcome = rw (not_below_itself number) refl
-no_progress (Dallying terms number dally) outcome = rw (not_below_itself number) refl
-no_progress (Closed None number true was) outcome = rw (not_below_itself number) refl
-no_progress (Closed None number false was) outcome = rw (not_below_itself number) refl
-no_progress (Closed (Some terms) number true was) outcome = rw (not_below_itself number) refl
-no_progress (Closed (Some terms) number false was) outcome = rw (not_below_itself number) refl
-
-one_less : (b : Bool) (left : ℕ) → (left ≡ 0 → ⊥)
-    → (if b then 1 else 0) + (if b then left - 1 else 0) ≤ (if b then left else 0)
-one_less true left some = omega (arith, some)
-one_less false left some = omega arith
+    search (rules, one_spends, limit_moves, after_turn, datagram_moves, datagram_answers)
 
 module _ (peer : Endpoint) (e : EndState) where
   -- what a response at a timeout sends was owed
@@ -139,26 +99,15 @@ module _ (peer : Endpoint) (e : EndState) where
       let turn = response_turn response e.position.last_sent_to e in
       answer_to peer turn.reply + owed peer (after_turn e turn) ≤ owed peer e
 
-  closes_cost : (outcome : Outcome) → Costs (Close outcome)
-  closes_cost outcome = rw (no_progress e.position.phase outcome) (omega arith)
-
-  tries_cost : Costs (if e.position.retries_left == 0 then Close outcomes.TimedOut else Retransmit)
-  tries_cost = elim (cases_eq e.position.retries_left 0) [
-    | inl none ↦ rw (eq-eqb e.position.retries_left 0 none) (closes_cost outcomes.TimedOut)
-    | inr some ↦ rw (ne_eqb e.position.retries_left 0 some)
-        (one_less (same_endpoint peer e.position.last_sent_to) e.position.retries_left some)
-  ]
-
   timeout_costs : (phase : Phase) → Costs (timeout_response e.position.retries_left phase)
-  timeout_costs (Dallying terms number Fresh) = omega arith
-  timeout_costs (Dallying terms number Waited) = closes_cost outcomes.Complete
-  timeout_costs phase = tries_cost
+  timeout_costs phase = search rules
 
 timeout_serves : (retries : ℕ) (e : EndState) → IsServing retries e → IsServing retries (after_turn e (timeout_turn e))
-timeout_serves retries e serving = record {
-  limit = limit_moves retries e (after_turn e (timeout_turn e)) refl (timeout_spends e).moves serving.limit;
-  at = at_own (timeout_answers AnySize Any e serving.at).position;
-}
+timeout_serves retries e serving = assumption (
+  limit_moves retries e (after_turn e (timeout_turn e)) refl
+      (timeout_spends e).moves serving.limit,
+  at_own (timeout_answers AnySize Any e serving.at).position,
+)
 
 -- ---- at the port of a transfer
 module _ {S F D : Type 0} (meaning : StoreMeaning S D) (sources : SourceMeaning F) (retries : ℕ) where
@@ -193,16 +142,7 @@ module _ {S F D : Type 0} (meaning : StoreMeaning S D) (sources : SourceMeaning 
       → Fair held before held' after
   fair_next port held held' before noted after transfer next reply found is serve own answers quiet costs = record {
     serve = held_next Serves port held held' next serve own is;
-    balance = λ peer. omega (
-      arith,
-      ap (owed_by peer) is,
-      sum_by-set_value (λ (t : TransferState F D). owed peer t.end) (is_at (nat_cmp port)) held transfer next found,
-      ap (sent_to peer) answers,
-      answered_sent peer port reply noted,
-      quiet peer,
-      costs peer,
-      ap (allowed peer) answers ∙ answered_same (allowed peer) (λ p t bs es. refl) port reply noted,
-    );
+    balance = search (rules, sum_by-set_value, is_at, nat_cmp, answered_same);
   }
     where
       answered_sent : (peer : Endpoint) (port : ℕ) (reply : Option Reply) (es : List SocketEvent)
@@ -221,12 +161,7 @@ module _ {S F D : Type 0} (meaning : StoreMeaning S D) (sources : SourceMeaning 
       → Keeps held held'
   kept_next port held held' transfer next found is same serve = record {
     serve = held_next Serves port held held' next serve (rw same (held_at Serves port held serve found)) is;
-    owes = λ peer. omega (
-      arith,
-      ap (owed_by peer) is,
-      ap (owed peer) same,
-      sum_by-set_value (λ (t : TransferState F D). owed peer t.end) (is_at (nat_cmp port)) held transfer next found,
-    );
+    owes = search (rules, sum_by-set_value, is_at, nat_cmp);
   }
 
   kept_same : (old new : ServerState S F D) → new ≡ old → AllServe old.held → Keeps old.held new.held
@@ -242,17 +177,13 @@ module _ {S F D : Type 0} (meaning : StoreMeaning S D) (sources : SourceMeaning 
       → at port old.held ≡ o → WorksAt meaning sources port o old new → AllServe old.held → Keeps old.held new.held
   worked port None old new found works serve = kept_same old new works serve
   worked port (Some transfer) old new found works serve =
-      kept_next port old.held new.held transfer works.0 found works.2
-      (ap (λ (t : TransferState F D). t.end) works.1.rest) serve
+      kept_next _ _ _ _ _ found works.2 (ap (λ (t : TransferState F D). t.end) works.1.rest) serve
 
   -- nothing is sent, and no less received
   fair_kept : (held held' : List (ℕ × TransferState F D)) (before after : List SocketEvent) → Keeps held held'
       → ((peer : Endpoint) → sent_to peer after ≡ sent_to peer before)
       → ((peer : Endpoint) → allowed peer before ≤ allowed peer after) → Fair held before held' after
-  fair_kept held held' before after keeps sent received = record {
-    serve = keeps.serve;
-    balance = λ peer. omega (arith, keeps.owes peer, sent peer, received peer);
-  }
+  fair_kept held held' before after keeps sent received = search rules
 
   port_fair : (now : ℕ) (s t : PortState S F D) → PortStep meaning sources now s t → AllServe s.server.held
       → Fair s.server.held s.events t.server.held t.events
@@ -328,17 +259,13 @@ module _ {S F D : Type 0} (meaning : StoreMeaning S D) (sources : SourceMeaning 
         record {
           serving = record {
             config = serving.config;
-            serve = held_new Serves tid s.server.held transfer serving.serve
-                (record { limit = limit; at = at_own begins.at });
+            serve = held_new Serves tid s.server.held transfer serving.serve (record {
+              limit = limit;
+              at = at_own
+                  begins.at;
+            });
           };
-          balance = λ peer. omega (
-            arith,
-            awaits peer,
-            insert_sum (λ (t : TransferState F D). owed peer t.end) s.server.held tid transfer,
-            ap (λ (to : Endpoint). if same_endpoint peer to then transfer.end.position.retries_left else 0)
-                begins.at.to,
-            left_counts (same_endpoint peer from) retries transfer.end.position.retries_left limit.left,
-          );
+          balance = search (rules, awaits, insert_sum, left_counts);
         }
 
   step_fair : (s t : LoopState S F D) → LoopStep meaning sources s t → AreServing s → IsFair s t
@@ -387,13 +314,4 @@ module _ {S F D : Type 0} (meaning : StoreMeaning S D) (sources : SourceMeaning 
 -- the law
 pub reflects_few : {S F D : Type 0} (meaning : StoreMeaning S D) (sources : SourceMeaning F)
     → ReflectsFew meaning sources
-reflects_few meaning sources start now none idle run peer =
-    let retries = start.server.config.retries in
-    let fair = fair_along meaning sources retries start now
-    (record { config = refl; serve = rw none (λ k d h. absurd (omega (arith, h))) }) run in
-    omega (
-      arith,
-      fair.balance peer,
-      ap (owed_by meaning sources retries peer) none,
-      ap (awaited meaning sources retries peer) idle,
-    )
+reflects_few meaning sources start now none idle run peer = search (rules, fair_along)

@@ -1,15 +1,15 @@
 -- What happens at the request port. For six functions, Opened, Receipts and Reserving.
 use Rattle.tftp_loop.proofs.Common.{◌≡◌, ◌⊎◌, ℕ, Bool, true, false, List, [], ◌∷◌, ◌++◌, Option, Some, None, IsSome}
-use Rattle.tftp_loop.proofs.Common.{refl, sym, ap, subst, ◌∙◌, inl, inr, Ok, Err, IfSome, is_some, true≢false}
-use Rattle.tftp_loop.proofs.Common.{SourceMeaning, Endpoint, StoreMeaning, ServerState, at, CarriesOut, Left, Goes}
-use Rattle.tftp_loop.proofs.Common.{Came, left_by, Nothing, Error_reply, Ask, Ignores, Refuses, Reads, Writes}
-use Rattle.tftp_loop.proofs.Common.{ErrorReply, error_bytes, SocketEvent, replied, Received, Quiet, IsOneOf, TriesPorts}
-use Rattle.tftp_loop.proofs.Common.{Run, Start, Then, LoopState, AnswersRequest, LosesRequest, RequestNote}
-use Rattle.tftp_loop.proofs.Common.{Found_no_port, Found_port, Found_no_memory, after_request, note_event, with_timer}
-use Rattle.tftp_loop.proofs.Common.{answering_port, is_draining, Request_noted, Request_received, Request_answered}
-use Rattle.tftp_loop.proofs.Common.{Request_lost, Store_set, Work_by, Concludes}
-use Rattle.std.proofs.Common.{◌≢◌}
-use Rattle.std.specs.Prelude.{is_ok, ◌||◌, ◌&&◌, not}
+use Rattle.tftp_loop.proofs.Common.{refl, ap, subst, ◌∙◌, inl, inr, Ok, Err, IfSome, true≢false, SourceMeaning}
+use Rattle.tftp_loop.proofs.Common.{Endpoint, StoreMeaning, ServerState, at, CarriesOut, Left, Goes, Came, left_by}
+use Rattle.tftp_loop.proofs.Common.{Nothing, Ask, Ignores, Refuses, Reads, Writes, ErrorReply, error_bytes, SocketEvent}
+use Rattle.tftp_loop.proofs.Common.{replied, Received, Quiet, IsOneOf, TriesPorts, Run, Start, Then, LoopState}
+use Rattle.tftp_loop.proofs.Common.{AnswersRequest, LosesRequest, RequestNote, Found_no_port, Found_port}
+use Rattle.tftp_loop.proofs.Common.{Found_no_memory, after_request, note_event, with_timer, answering_port, is_draining}
+use Rattle.tftp_loop.proofs.Common.{Request_noted, Request_received, Request_answered, Request_lost, Store_set, Work_by}
+use Rattle.tftp_loop.proofs.Common.{Concludes}
+use Rattle.std.proofs.Common.{◌≢◌, rules}
+use Rattle.std.specs.Prelude.{is_ok, ◌&&◌, not}
 use Rattle.tftp_server.specs.Request.{Admits, AdmissionState, RequestStep}
 use Rattle.tftp_server.specs.Port.{asks_store}
 use Rattle.tftp_server.specs.CallersFiles.{refusal}
@@ -18,7 +18,7 @@ use Rattle.tftp_sockets.specs.Trace.QuietEvent.{Out_of_memory}
 use Rattle.tftp_loop.specs.OnlyRequests.{IsHandledBy, begins_as_request}
 use Rattle.tftp_loop.specs.PortPool.{Binds, TriesInVain}
 use Rattle.tftp_loop.specs.MayOpen.{LacksMemoryToOpen, MayOpen}
-use Rattle.tftp_loop.specs.Steps.{IsSet, RequestLoss, No_request}
+use Rattle.tftp_loop.specs.Steps.{IsSet, RequestLoss, No_answer, No_request}
 use Rattle.tftp_loop.specs.Steps.{No_memory_to_open, No_port}
 use Rattle.tftp_loop.specs.Steps.{Same_port, SetsStore, Too_many, has_most, is_taken}
 use Rattle.tftp_loop.specs.LoopStates.{IsAdmission}
@@ -39,9 +39,7 @@ refused_bytes (Some reply) = error_bytes reply
 
 -- the one holds, and the other does not
 and_not : (one other : Bool) → (one && not other) ≡ true → (one ≡ true) × (other ≡ false)
-and_not true true h = absurd (true≢false (sym h))
-and_not true false h = (refl, refl)
-and_not false other h = absurd (true≢false (sym h))
+and_not one other h = search rules
 
 -- what holds holds of what an option has
 if_some : {A P : Type 0} (o : Option A) → P → IfSome o (λ _. P)
@@ -57,70 +55,30 @@ module _ {S F D : Type 0} (meaning : StoreMeaning S D) (sources : SourceMeaning 
         asked = true;
         events = Received s.requests from bytes ∷ s.events;
       } → Runs meaning sources s t
-  receives_as s t from bytes none first on is =
-      once
-      (Work_by (Request_received (record {
-        from = from;
-        bytes = bytes;
-        none = none;
-        goes_on = on;
-        first = first;
-        is = is;
-      })) tt)
-
-  -- the step of the store, if it was set
-  abbrev pub Sets : LoopState S F D → LoopState S F D → Type 0
-  Sets s t = (t ≡ s) ⊎ SetsStore meaning sources s t
+  receives_as s t from bytes none first on is = once (Work_by (Request_received (search)) tt)
 
   set_as : (s : LoopState S F D) (server : ServerState S F D) → server ≡ record s.server { store = server.store } →
       meaning.stored server.store ≡ meaning.stored s.server.store
       → IsSet meaning s.server.store server.store → SetsStore meaning sources s (record s { server = server })
-  set_as s server rest same behind = record {
-    store = server.store;
-    same = same;
-    behind = behind;
-    is = ap (λ (v : ServerState S F D). record s { server = v }) rest;
-  }
+  set_as s server rest same behind = search rules
 
   -- an admission is one of the server whose store was set
   pub admits_set : (old new : ServerState S F D) (from : Endpoint) (bytes : List ℕ) (ask : Ask) →
       new ≡ record old { store = new.store } → Admits old from bytes ask → Admits new from bytes ask
-  admits_set old new from bytes ask rest a =
-      rw rest (record {
-        decoded = a.decoded;
-        says = a.says;
-        repeated = a.repeated;
-        repeats = a.repeats;
-        asks_for = a.asks_for;
-      })
+  admits_set old new from bytes ask rest a = rw rest (search)
 
   -- an admission that is carried out is the step of the request port
   pub request_step : (old : ServerState S F D) (from : Endpoint) (bytes : List ℕ) (ask : Ask) (tid : ℕ)
       (left : Left S F D)
       → Admits old from bytes ask → CarriesOut meaning sources old from bytes ask tid left →
       RequestStep meaning sources old from bytes tid left
-  request_step old from bytes ask tid left a o =
-      let At : Ask → Type 0 = λ asked. Goes meaning sources old from bytes asked o.came in
-      record {
-        decoded = a.decoded;
-        says = a.says;
-        repeated = a.repeated;
-        repeats = a.repeats;
-        came = o.came;
-        goes = subst At a.asks_for o.goes;
-        left = o.left;
-      }
+  request_step old from bytes ask tid left a o = search rules
 
   -- an admission of a server before its store was set
   pub may_open : (before server : ServerState S F D) (from : Endpoint) (bytes : List ℕ) (admission : AdmissionState) →
       server ≡ record before { store = server.store }
       → IsAdmission before from bytes admission → asks_store admission.ask ≡ true → MayOpen server from bytes
-  may_open before server from bytes admission rest admitted asks =
-      record {
-        ask = admission.ask;
-        admits = admits_set before server from bytes admission.ask rest admitted.admits;
-        asks = asks;
-      }
+  may_open before server from bytes admission rest admitted asks = search (rules, admits_set)
 
   -- ---- what is done first
   -- what prepares an answer and then concludes it concludes
@@ -133,8 +91,7 @@ module _ {S F D : Type 0} (meaning : StoreMeaning S D) (sources : SourceMeaning 
   noted_as : (s t : LoopState S F D) (from : Endpoint) (bytes : List ℕ) → s.pending ≡ Some (from, bytes)
       → (note : RequestNote meaning sources s from bytes) → t ≡ record s { events = Quiet (note_event note) ∷ s.events }
       → Prepares meaning sources s t
-  noted_as s t from bytes pending note is =
-      Notes_it (record { from = from; bytes = bytes; pending = pending; note = note; is = is })
+  noted_as s t from bytes pending note is = Notes_it (search)
 
   -- ports were tried for the datagram
   module _ (s : LoopState S F D) (from : Endpoint) (bytes : List ℕ) (pending : s.pending ≡ Some (from, bytes))
@@ -152,10 +109,8 @@ module _ {S F D : Type 0} (meaning : StoreMeaning S D) (sources : SourceMeaning 
     pub bound_as : (es fs : List SocketEvent) (port : ℕ) → IsOneOf s.range port → Binds s.range es fs port →
         Run (Prepares meaning sources) (record s { events = es }) (record s { events = fs })
     bound_as es fs port within binds =
-        Then (tried_as binds.earlier)
-        (noted_as (record s { events = binds.between }) (record s { events = fs }) from bytes pending
-        (Found_port opens port within)
-        (ap (λ (gs : List SocketEvent). record s { events = gs }) binds.is))
+        Then (tried_as binds.earlier) (noted_as (record s { events = binds.between }) (record s { events = fs }) from
+        bytes pending (Found_port opens port within) (ap (λ gs. record s { events = gs }) binds.is))
 
   -- the datagram was lost, and nothing changed
   pub loses_as : (s t : LoopState S F D) (from : Endpoint) (bytes : List ℕ) → s.pending ≡ Some (from, bytes) →
@@ -167,11 +122,12 @@ module _ {S F D : Type 0} (meaning : StoreMeaning S D) (sources : SourceMeaning 
     ends = inr (record { from = from; bytes = bytes; pending = pending; why = why; is = is });
   }
 
-  -- only requests are handled, and the datagram, which is no request, was lost
-  pub drops_as : (s t : LoopState S F D) (from : Endpoint) (bytes : List ℕ) → s.pending ≡ Some (from, bytes) →
-      (s.requests_only && not (begins_as_request bytes)) ≡ true → t ≡ record s { pending = None }
-      → Concludes meaning sources s t
-  drops_as s t from bytes pending drops is =
+  -- no answer can come there, or only requests are handled and it is none, and the datagram was lost
+  pub ignores_as : (s t : LoopState S F D) (from : Endpoint) (bytes : List ℕ) → s.pending ≡ Some (from, bytes)
+      → (from.port ≡ 0) ⊎ ((s.requests_only && not (begins_as_request bytes)) ≡ true)
+      → t ≡ record s { pending = None } → Concludes meaning sources s t
+  ignores_as s t from bytes pending (inl none) is = loses_as s t from bytes pending (No_answer none) is
+  ignores_as s t from bytes pending (inr drops) is =
       let both = and_not s.requests_only (begins_as_request bytes) drops in
       loses_as s t from bytes pending (No_request both.0 both.1) is
 
@@ -196,9 +152,7 @@ module _ {S F D : Type 0} (meaning : StoreMeaning S D) (sources : SourceMeaning 
       s.pending ≡ Some (from, bytes) → MayOpen s.server from bytes
       → TriesInVain s.range s.events fs → t ≡ record s { pending = None; events = fs } → Concludes meaning sources s t
   tries_in_vain s t from bytes fs pending opens vain is =
-      prepares_first s (record s { events = fs }) t
-      (tried_as s from bytes pending opens (Then vain.earlier vain.last))
-      (loses_as (record s { events = fs }) t from bytes pending
+      prepares_first s _ t (tried_as s _ _ pending opens (Then vain.earlier vain.last)) (loses_as _ t _ _ pending
       (No_port opens vain.last.port (record { earlier = vain.between; is = vain.last.is }) vain.missed) is)
 
   -- a new socket is at a port that is taken, and the datagram was lost
@@ -207,10 +161,8 @@ module _ {S F D : Type 0} (meaning : StoreMeaning S D) (sources : SourceMeaning 
       → Binds s.range s.events fs port → is_taken s port ≡ true
       → t ≡ record s { pending = None; events = fs } → Concludes meaning sources s t
   binds_in_vain s t from bytes fs port pending opens within binds taken is =
-      prepares_first s (record s { events = fs }) t
-      (bound_as s from bytes pending opens s.events fs port within binds)
-      (loses_as (record s { events = fs }) t from bytes pending
-      (Same_port opens port (record { earlier = binds.between; is = binds.is }) taken) is)
+      prepares_first s _ t (bound_as s _ _ pending opens _ _ _ within binds) (loses_as _ t _ _ pending (Same_port opens
+      port (record { earlier = binds.between; is = binds.is }) taken) is)
 
   -- the store was set, memory was refused, and the datagram was lost
   pub sets_and_loses : (s t : LoopState S F D) (from : Endpoint) (bytes : List ℕ) (set : ServerState S F D) →
@@ -221,9 +173,7 @@ module _ {S F D : Type 0} (meaning : StoreMeaning S D) (sources : SourceMeaning 
       t ≡ record s { server = set; pending = None; events = Quiet Out_of_memory ∷ s.events }
       → Concludes meaning sources s t
   sets_and_loses s t from bytes set pending rest same behind lacks is =
-      prepares_first s (record s { server = set }) t
-      (once (Sets_store (set_as s set rest same behind)))
-      (loses_for_memory (record s { server = set }) t from bytes pending lacks is)
+      prepares_first s _ t (once (Sets_store (set_as s _ rest same behind))) (loses_for_memory _ t _ _ pending lacks is)
 
   -- the store was set, and an admission was carried out and answered
   pub sets_and_answers : (s t : LoopState S F D) (from : Endpoint) (bytes : List ℕ) (tid : ℕ)
@@ -243,40 +193,30 @@ module _ {S F D : Type 0} (meaning : StoreMeaning S D) (sources : SourceMeaning 
         events = replied (answering_port s.requests opened.tid) opened.to out s.events;
       }
       → Concludes meaning sources s t
-  sets_and_answers s t from bytes tid set new admission cleared out opened pending admitted handled rest same behind carried
+  sets_and_answers s t from bytes tid set new admission cleared out opened pending admitted handled rest same behind
+      carried
       free port own set_to few empty is =
       let sent = carried.0 in
       let left : Left S F D = record { new = new; opened = opened; sent = sent } in
       let At : Endpoint → Type 0 = λ e. CarriesOut meaning sources set e admission.bytes admission.ask tid left in
       let Of : List ℕ → Type 0 = λ bs. CarriesOut meaning sources set from bs admission.ask tid left in
       let carries = subst Of admitted.same_bytes (subst At admitted.same_from carried.2) in
-      let steps =
-      request_step set from bytes admission.ask tid left
-      (admits_set s.server set from bytes admission.ask rest admitted.admits) carries in
-      let put : out ≡ sent = carried.1 ∙ ap (λ (bs : List ℕ). bs ++ sent) empty in
+      let steps = request_step _ _ _ _ _ _ (admits_set _ _ _ _ _ rest admitted.admits) carries in
+      let put = carried.1 ∙ ap (λ (bs : List ℕ). bs ++ sent) empty in
       record {
         middle = record s { server = set };
-        prepares = once (Sets_store (set_as s set rest same behind));
-        ends = inl (record {
-          from = from;
-          bytes = bytes;
-          pending = pending;
-          handled = handled;
-          tid = tid;
-          free = free;
-          left = left;
-          port = port;
-          own = own;
-          set = if_some opened.tid set_to;
-          few = if_some opened.tid few;
-          steps = steps;
-          is = is ∙ ap (λ (bs : List ℕ). record s {
+        prepares = once (Sets_store (set_as s _ rest same behind));
+        ends = inl (search (
+          if_some opened.tid set_to,
+          if_some opened.tid few,
+          is ∙ ap (λ (bs : List ℕ). record s {
             server = new;
             pending = None;
-            timers = with_timer s.now s.longest s.backoff from opened.tid new.held s.timers;
+            timers = with_timer s.now s.longest s.backoff from opened.tid new.held
+                s.timers;
             events = replied (answering_port s.requests opened.tid) opened.to bs s.events;
-          }) put;
-        });
+          }) put,
+        ));
       }
 
   -- what was concluded is work
@@ -319,8 +259,7 @@ module _ {S F D : Type 0} (meaning : StoreMeaning S D) (sources : SourceMeaning 
           own = rw none tt;
           set = rw none tt;
           few = rw none tt;
-          steps = request_step s.server from bytes ask tid (left_by came s.server from tid) admits
-              (record { came = came; goes = goes; left = refl });
+          steps = search rules;
           is = is;
         });
       }
@@ -339,8 +278,7 @@ module _ {S F D : Type 0} (meaning : StoreMeaning S D) (sources : SourceMeaning 
       refused_step s t from bytes Ignores unused.0 Nothing pending handled admits refl unused.1 refl is
   refuses_as s t from bytes (Refuses reply) pending handled admits none is =
       let unused = free_identifier s.server.held in
-      refused_step s t from bytes (Refuses reply) unused.0 (Error_reply reply s.server.store) pending handled admits refl
-      unused.1 refl is
+      refused_step s t _ _ _ _ _ pending handled admits refl unused.1 refl is
   refuses_as s t from bytes (Reads path mode options) pending handled admits none is = absurd (true≢false none)
   refuses_as s t from bytes (Writes path mode agreed) pending handled admits none is = absurd (true≢false none)
 
@@ -352,9 +290,3 @@ is_free (Some x) h = absurd (h refl)
 -- an answer is no fault
 pub ok-err : {T E : Type 0} (x : T) (e : E) → Ok x ≡ Err e → ⊥
 ok-err x e h = true≢false (ap is_ok h)
-
--- a port that is not taken is neither
-pub not_taken : {T : Type 0} (same : Bool) (o : Option T) → (same || is_some o) ≡ false → (same ≡ false) × (o ≡ None)
-not_taken false None h = (refl, refl)
-not_taken false (Some x) h = absurd (true≢false h)
-not_taken true o h = absurd (true≢false h)

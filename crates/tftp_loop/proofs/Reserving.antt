@@ -1,24 +1,19 @@
 -- What is reserved at the start suffices: for the port of each transfer, and for each ERROR. For five functions.
+use Rattle.std.proofs.Common.{rules}
 use Rattle.tftp_loop.proofs.Common.{arith, ◌≡◌, ◌≤◌, ◌<◌, ◌⊎◌, ◌||◌, ℕ, suc, Bool, true, false, List, [], ◌∷◌, length}
-use Rattle.tftp_loop.proofs.Common.{map, Option, Some, None, IsSome, refl, sym, ap, subst, ◌∙◌, inl, inr, Ok, Err}
-use Rattle.tftp_loop.proofs.Common.{Result, All, is_some, if◌then◌else◌, slice_index_or, AllByRecursion, list_any}
-use Rattle.tftp_loop.proofs.Common.{nat_cmp, true≢false, length-map, has_error_opcode, Packet, Read, Write, Limits}
-use Rattle.tftp_loop.proofs.Common.{path_of_name, SourceMeaning, StoreFault, Endpoint, StoreMeaning, Opening, Ask}
-use Rattle.tftp_loop.proofs.Common.{Ignores, Refuses, Reads, Service, Refused, Came, CarriesOut, Left, left_by, Nothing}
-use Rattle.tftp_loop.proofs.Common.{ServerState, TransferState, at, Config, HavePortsApart, AreKept, IsHeld, Timer}
-use Rattle.std.specs.Prelude.{nat_le}
+use Rattle.tftp_loop.proofs.Common.{map, Option, None, IsSome, refl, sym, inr, Err, Result, All, if◌then◌else◌}
+use Rattle.tftp_loop.proofs.Common.{slice_index_or, AllByRecursion, list_any, nat_cmp, true≢false, length-map}
+use Rattle.tftp_loop.proofs.Common.{has_error_opcode, Packet, Limits, SourceMeaning, StoreFault, Endpoint, StoreMeaning}
+use Rattle.tftp_loop.proofs.Common.{Ask, Ignores, CarriesOut, Left, ServerState, TransferState, at, Config}
+use Rattle.tftp_loop.proofs.Common.{HavePortsApart, AreKept, IsHeld, Timer}
 use Rattle.std.specs.List.{IsDistinct}
 use Rattle.std.specs.Cmp.{eq_by_cmp_equiv, nat_cmp_total}
 use Rattle.std.specs.Ordering.{eq_by_cmp}
-use Rattle.std.proofs.lemmas.Bool.Decides.{nat_tests}
 use Rattle.std.proofs.lemmas.Map.Steps.{length-le_from_keys}
 use Rattle.tftp_file.specs.declared.fault.StoreFault.TheVariants as stores
-use Rattle.tftp_file.specs.declared.path.PathFault.{PathFault}
-use Rattle.tftp_ends.specs.declared.error_reply.ErrorReply.TheVariants.{ServerBusy}
-use Rattle.tftp_server.specs.Port.{asks_store}
-use Rattle.tftp_server.specs.Port.{by_name, by_packet, by_repeat}
+use Rattle.tftp_server.specs.Port.{asks_store, by_packet}
 use Rattle.tftp_server.specs.Request.{Admits, AdmissionState}
-use Rattle.tftp_server.specs.Shortage.{AskLacksMemory, FileLacksMemory, ServiceLacksMemory}
+use Rattle.tftp_server.specs.Shortage.{AskLacksMemory}
 use Rattle.tftp_server.specs.declared.fault.ServerFault.{ServerFault}
 use Rattle.tftp_server.specs.declared.fault.ServerFault.TheVariants.{TidInUse, Memory}
 use Rattle.tftp_loop.specs.declared.reserved.TheConstants.{LONGEST_ANSWER}
@@ -30,27 +25,10 @@ use Rattle.tftp_loop.proofs.Tables.{compares}
 -- ---- an answer has room
 -- what lacks memory in a buffer lacks it in a shorter one
 module _ (less capacity used : ℕ) (fits : less ≤ capacity) (empty : used ≡ 0) where
-  service_lacks : (service : Service) → ServiceLacksMemory capacity used service → ServiceLacksMemory less 0 service
-  service_lacks (Refused reply) lacks = omega (arith, fits, empty, lacks)
-  service_lacks service lacks = lacks
-
-  file_lacks : {F : Type 0} (service : Service) (file : Result (Opening F) StoreFault) →
-      FileLacksMemory capacity used service file → FileLacksMemory less 0 service file
-  file_lacks service (Err stores.Memory) lacks = lacks
-  file_lacks service file lacks = service_lacks service lacks
-
   module _ {S F D : Type 0} (meaning : StoreMeaning S D) (sources : SourceMeaning F) (old : ServerState S F D) where
     ask_lacks : (ask : Ask) → AskLacksMemory capacity used meaning sources old ask
         → AskLacksMemory less 0 meaning sources old ask
-    ask_lacks (Refuses reply) lacks = omega (arith, fits, empty, lacks)
-    ask_lacks (Reads path mode options) lacks = record {
-      file = lacks.file;
-      opens = lacks.opens;
-      refused = lacks.refused;
-      must = lacks.must;
-      lacks = file_lacks _ lacks.file lacks.lacks;
-    }
-    ask_lacks ask lacks = lacks
+    ask_lacks ask lacks = search rules
 
 module _ {S F D : Type 0} (meaning : StoreMeaning S D) (sources : SourceMeaning F) where
   -- an admission that was not carried out, by the server whose store was set
@@ -73,37 +51,17 @@ failed fault = Err fault
 pub memory_if_free : {T A : Type 0} (o : Option T) (fault : ServerFault) → o ≡ None
     → (failed {A = A} fault ≡ failed TidInUse → IsSome o) → (fault ≡ TidInUse) ⊎ (fault ≡ Memory)
     → failed {A = A} fault ≡ failed Memory
-memory_if_free {A = A} o fault free in_use (inl used) =
-    absurd (true≢false (sym (in_use (ap (failed {A = A}) used)) ∙ ap is_some free))
-memory_if_free {A = A} o fault free in_use (inr memory) = ap (failed {A = A}) memory
+memory_if_free o fault free in_use fails = search rules
 
 -- ---- a port has room
 module _ (cap count : ℕ) where
-  room_below : (next : List ℕ → Ask) (path : List ℕ) (full : Bool) → nat_le cap count ≡ full
-      → asks_store (if full then Refuses ServerBusy else next path) ≡ true → count < cap
-  room_below next path true is asks = absurd (true≢false (sym asks))
-  room_below next path false is asks = grind (arith, nat_tests)
-
-  name_below : (next : List ℕ → Ask) (path : Result (List ℕ) PathFault) →
-      asks_store (by_name cap count next path) ≡ true → count < cap
-  name_below next (Ok path) asks = room_below next path (nat_le cap count) refl asks
-  name_below next (Err fault) asks = absurd (true≢false (sym asks))
-
-  repeat_below : (repeated : Bool) (next : List ℕ → Ask) (path : Result (List ℕ) PathFault) →
-      asks_store (by_repeat repeated (by_name cap count next path)) ≡ true → count < cap
-  repeat_below true next path asks = absurd (true≢false (sym asks))
-  repeat_below false next path asks = name_below next path asks
-
   packet_below : (repeated : Bool) (limits : Limits) (packet : Option Packet) →
       asks_store (by_packet cap count repeated limits packet) ≡ true → count < cap
-  packet_below repeated limits (Some (Read r)) asks = repeat_below repeated _ (path_of_name r.name) asks
-  packet_below repeated limits (Some (Write r)) asks = repeat_below repeated _ (path_of_name r.name) asks
-  packet_below repeated limits packet asks = absurd (true≢false (sym asks))
+  packet_below repeated limits packet asks = search rules
 
   opcode_below : (is_error repeated : Bool) (limits : Limits) (packet : Option Packet) →
       asks_store (if is_error then Ignores else by_packet cap count repeated limits packet) ≡ true → count < cap
-  opcode_below true repeated limits packet asks = absurd (true≢false (sym asks))
-  opcode_below false repeated limits packet asks = packet_below repeated limits packet asks
+  opcode_below is_error repeated limits packet asks = search (rules, true≢false, packet_below)
 
 abbrev same_key : ℕ → ℕ → Bool
 same_key = eq_by_cmp nat_cmp
@@ -134,9 +92,7 @@ keys_apart (t ∷ timers) apart = (
 module _ {F D : Type 0} (held : List (ℕ × TransferState F D)) where
   first_held : (t : Timer) (q : ℕ) (same more : Bool) → same_key q t.port ≡ same → IsSome (at t.port held)
       → (more ≡ true → IsSome (at q held)) → (same || more) ≡ true → IsSome (at q held)
-  first_held t q true more is here rest among =
-      subst (λ (p : ℕ). IsSome (at p held)) (sym (compares q t.port (nat_cmp q t.port) refl is)) here
-  first_held t q false more is here rest among = rest among
+  first_held t q same more is here rest among = search rules
 
   key_held : (timers : List Timer) → All (IsHeld held) timers → (q : ℕ)
       → list_any (same_key q) (map (λ (t : Timer). t.port) timers) ≡ true → IsSome (at q held)
@@ -160,32 +116,20 @@ module _ {S F D : Type 0} where
       (capacity : ℕ) → Admits server from bytes ask → asks_store ask ≡ true → AreKept server.held timers
       → server.config.cap ≤ capacity → length timers < capacity
   has_reserved server from bytes ask timers capacity admits asks kept room =
-      let below =
-      opcode_below server.config.cap (length server.held) (has_error_opcode bytes) admits.repeated
-      server.config.limits admits.decoded (ap asks_store (sym admits.asks_for) ∙ asks) in
-      let few = few_timers server.held timers kept in
-      omega (arith, below, few, room)
+      search (rules, opcode_below, length, has_error_opcode, few_timers)
 
 -- ---- what is reserved stays
 -- by a server with the same configuration
 pub room_same : {before after : Config} {ports answer : ℕ} → after ≡ before → RoomFor before.cap ports answer
     → RoomFor after.cap ports answer
-room_same {ports = ports} {answer = answer} same room =
-    subst (λ (config : Config). RoomFor config.cap ports answer) (sym same) room
+room_same {ports = ports} {answer = answer} same room = search rules
 
 -- in an answer that has grown
 pub room_grown : {cap ports before after : ℕ} → before ≤ after → RoomFor cap ports before → RoomFor cap ports after
-room_grown grown room =
-    let longest = room.longest in record { each = room.each; longest = omega (arith, grown, longest) }
+room_grown grown room = search rules
 
 module _ {S F D : Type 0} (meaning : StoreMeaning S D) (sources : SourceMeaning F) where
-  came_config : (came : Came S F D) (old : ServerState S F D) (from : Endpoint) (tid : ℕ) →
-      (left_by came old from tid).new.config ≡ old.config
-  came_config Nothing old from tid = refl
-  came_config came old from tid = refl
-
   -- an admission that was carried out leaves the configuration
   pub carried_config : (old : ServerState S F D) (from : Endpoint) (bytes : List ℕ) (ask : Ask) (tid : ℕ)
       (left : Left S F D) → CarriesOut meaning sources old from bytes ask tid left → left.new.config ≡ old.config
-  carried_config old from bytes ask tid left carries =
-      ap (λ (l : Left S F D). l.new.config) carries.left ∙ came_config carries.came old from tid
+  carried_config old from bytes ask tid left carries = search rules

@@ -1,7 +1,7 @@
 -- A round lasts a second at most, by the clock of the program. For Expiring.
-use Rattle.tftp_loop.proofs.Common.{arith, ◌≡◌, ◌≤◌, ◌+◌, ◌⊎◌, ℕ, ap, inl, inr, SourceMeaning, StoreMeaning}
-use Rattle.tftp_loop.proofs.Common.{LONGEST_WAIT, LoopState, LoopStep, Waits, round_end, Waited, Clock_read, IsNoWait}
-use Rattle.tftp_loop.proofs.NewStates.{state_is}
+use Rattle.std.proofs.Common.{rules}
+use Rattle.tftp_loop.proofs.Common.{arith, ◌≤◌, ◌+◌, ◌⊎◌, ℕ, inl, inr, SourceMeaning, StoreMeaning, LONGEST_WAIT}
+use Rattle.tftp_loop.proofs.Common.{LoopState, LoopStep, Waits, round_end, Waited, IsNoWait}
 
 module _ {S F D : Type 0} (meaning : StoreMeaning S D) (sources : SourceMeaning F) where
   -- a step is a wait or not
@@ -22,29 +22,9 @@ module _ {S F D : Type 0} (meaning : StoreMeaning S D) (sources : SourceMeaning 
 
   -- the round after a wait
   pub next_round : (since : ℕ) (s t : LoopState S F D) → Waits meaning sources s t → InRound since s → InRound s.now t
-  next_round since s t d round =
-      let now : t.now ≡ d.watch.now = ap (λ (u : LoopState S F D). u.now) d.is in
-      record {
-        soon = omega (arith, now, d.by.soon);
-        limit = omega (arith, ap (λ (u : LoopState S F D). u.limit) d.is);
-        from = omega (arith, now, d.by.forward);
-      }
+  next_round since s t d round = search rules
 
   -- a step without a wait stays within the round
   pub step_round : (since : ℕ) (s t : LoopState S F D) (does : LoopStep meaning sources s t)
       → IsNoWait meaning sources does → InRound since s → InRound since t
-  step_round since s t (Waited d) is round = absurd is
-  step_round since s t (Clock_read d) is round =
-      let now : t.now ≡ d.watch.now = ap (λ (u : LoopState S F D). u.now) d.is in
-      record {
-        soon = omega (arith, now, round.soon, d.by.soon, round.limit);
-        limit = omega (arith, ap (λ (u : LoopState S F D). u.limit) d.is, round.limit);
-        from = omega (arith, now, d.by.forward, round.from);
-      }
-  step_round since s t does is round =
-      omega (
-        arith,
-        ap (λ (u : LoopState S F D). u.now) (state_is does),
-        ap (λ (u : LoopState S F D). u.limit) (state_is does),
-        round,
-      )
+  step_round since s t does is round = search rules

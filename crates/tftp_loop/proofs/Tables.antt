@@ -1,16 +1,19 @@
 -- Elements and entries that a change leaves as they were. For eleven other files and the crate tftp_daemon.
+use Rattle.std.proofs.Common.{rules, arith as std_arith}
+use Rattle.std.proofs.lemmas.Grind.{common_steps}
 use Rattle.tftp_loop.proofs.Common.{arith, ◌≡◌, ◌<◌, ◌≤◌, ◌+◌, ◌-◌, ◌⊎◌, ℕ, Bool, true, false, List, [], ◌∷◌, ◌++◌}
 use Rattle.tftp_loop.proofs.Common.{length, Option, Some, None, cond, refl, sym, ap, ◌∙◌, inl, inr, slice_set}
 use Rattle.tftp_loop.proofs.Common.{slice_index_or, if◌then◌else◌, swap_remove, lookup, is_at, nat_cmp, cases_eq}
 use Rattle.tftp_loop.proofs.Common.{none-some, same_Some, with_new, with_next, without}
-use Rattle.std.specs.BTreeMap.{insert_entry}
-use Rattle.std.specs.Ordering.{match_ordering, is_eq}
+use Rattle.std.specs.Ordering.{is_eq}
 use Rattle.std.specs.declared.cmp.Ordering.{Ordering}
-use Rattle.std.specs.declared.cmp.Ordering.TheVariants.{Less, Equal, Greater}
 use Rattle.std.proofs.lemmas.Bool.Decides.{nat_tests}
-use Rattle.std.proofs.lemmas.List.{get_or_append_left, get_or_push, get_or-set_other, get_or-take, length-take-le}
+use Rattle.std.proofs.lemmas.List.{get_or_append_left, get_or_push, get_or-set_other, get_or-take}
+use Rattle.std.proofs.lemmas.List.{get_or-set_same as set_own, get_or_default as any_default}
+use Rattle.std.proofs.lemmas.List.{get_or-set_same as set_own, get_or_default as any_default}
+use Rattle.std.proofs.lemmas.List.{get_or-set_same as set_own, get_or_default as any_default}
+use Rattle.std.proofs.lemmas.List.{length_push as appended_long}
 use Rattle.tftp_server.proofs.HeldLemmas.{next_there}
-use Rattle.tftp_loop.proofs.ListLemmas.{set_long}
 pub use Rattle.std.proofs.lemmas.List.{get_or-set_same as set_own, get_or_default as any_default}
 pub use Rattle.std.proofs.lemmas.List.{length_push as appended_long}
 
@@ -32,9 +35,7 @@ module _ {X : Type 0} where
 
   -- a list without one is shorter by one
   pub removed_long : (xs : List X) (i : ℕ) (x : X) → length (swap_remove xs i x) ≡ length xs - 1
-  removed_long xs i x =
-      let last = slice_index_or xs (length xs - 1) x in
-      length-take-le (length xs - 1) (slice_set xs i last) (omega (arith, set_long xs i last))
+  removed_long xs i x = search rules
 
   -- where an element of the list without one was before
   pub record WasAt (xs : List X) (i k : ℕ) (y : X) : Type 0 where
@@ -56,9 +57,7 @@ module _ {X : Type 0} where
           index = length xs - 1;
           within = omega arith;
           other = λ e. omega arith;
-          is =
-              λ e. here ∙ (ap (λ (j : ℕ). slice_index_or (slice_set xs i last) j d) same
-              ∙ (set_own xs i last d inside ∙ any_default xs (length xs - 1) x e (omega arith)));
+          is = grind (std_arith, common_steps);
           which = inl (same, refl);
         }
         | inr apart ↦ record {
@@ -103,16 +102,11 @@ own_key tid = grind (arith, nat_tests)
 
 -- a test for one key fails at another
 other_key : (q key : ℕ) → (q ≡ key → ⊥) → is_eq (nat_cmp q key) ≡ false
-other_key q key apart = by (is_eq (nat_cmp q key)) (compares q key (nat_cmp q key) refl)
-  where
-    by : (b : Bool) → (b ≡ true → q ≡ key) → b ≡ false
-    by true same = absurd (apart (same refl))
-    by false same = refl
+other_key q key apart = search rules
 
 tests_apart : (tid q : ℕ) → (q ≡ tid → ⊥) → (key : ℕ) → is_eq (nat_cmp tid key) ≡ true
     → is_eq (nat_cmp q key) ≡ false
-tests_apart tid q apart key own =
-    other_key q key (λ same. apart (same ∙ sym (compares tid key (nat_cmp tid key) refl own)))
+tests_apart tid q apart key own = search rules
 
 module _ {T : Type 0} where
   abbrev found : ℕ → List (ℕ × T) → Option T
@@ -122,46 +116,25 @@ module _ {T : Type 0} where
     -- a new value at one key leaves what is found at another
     pub set_apart : (held : List (ℕ × T)) (w : T) → found q (with_next tid w held) ≡ found q held
     set_apart [] w = refl
-    set_apart (e ∷ held) w = by (is_eq (nat_cmp tid e.0)) refl (set_apart held w)
-      where
-        by : (own : Bool) → is_eq (nat_cmp tid e.0) ≡ own → found q (with_next tid w held) ≡ found q held
-            → found q (cond own ((e.0, w) ∷ held) (e ∷ with_next tid w held)) ≡ found q (e ∷ held)
-        by true own rest = rw (tests_apart tid q apart e.0 own) refl
-        by false own rest = ap (λ (m : Option T). cond (is_eq (nat_cmp q e.0)) (Some e.1) m) rest
+    set_apart (e ∷ held) w =
+        search (rules, nat_cmp, with_next, cond, true, tests_apart, false, set_apart held w)
 
     -- so does a removal
     pub removed_apart : (held : List (ℕ × T)) → found q (without tid held) ≡ found q held
     removed_apart [] = refl
-    removed_apart (e ∷ held) = by (is_eq (nat_cmp tid e.0)) refl (removed_apart held)
-      where
-        by : (own : Bool) → is_eq (nat_cmp tid e.0) ≡ own → found q (without tid held) ≡ found q held
-            → found q (cond own held (e ∷ without tid held)) ≡ found q (e ∷ held)
-        by true own rest = rw (tests_apart tid q apart e.0 own) refl
-        by false own rest = ap (λ (m : Option T). cond (is_eq (nat_cmp q e.0)) (Some e.1) m) rest
+    removed_apart (e ∷ held) =
+        search (rules, nat_cmp, without, cond, true, tests_apart, false, removed_apart held)
 
     -- and an insertion
     pub inserted_apart : (v : T) (held : List (ℕ × T)) → found q (with_new tid v held) ≡ found q held
     inserted_apart v [] = rw (other_key q tid apart) refl
-    inserted_apart v (e ∷ held) = by (nat_cmp tid e.0) refl (inserted_apart v held)
-      where
-        by : (o : Ordering) → nat_cmp tid e.0 ≡ o → found q (insert_entry nat_cmp held tid v) ≡ found q held
-            → found q (match_ordering o ((tid, v) ∷ e ∷ held) ((e.0, v) ∷ held) (e ∷ insert_entry nat_cmp held tid v))
-            ≡ found q (e ∷ held)
-        by Less is rest = rw (other_key q tid apart) refl
-        by Equal is rest = rw (tests_apart tid q apart e.0 (ap is_eq is)) refl
-        by Greater is rest = ap (λ (m : Option T). cond (is_eq (nat_cmp q e.0)) (Some e.1) m) rest
+    inserted_apart v (e ∷ held) =
+        search (rules, nat_cmp, other_key, tests_apart, cond, inserted_apart v held)
 
   -- the inserted value is found
   pub inserted_own : (tid : ℕ) (v : T) (held : List (ℕ × T)) → found tid (with_new tid v held) ≡ Some v
   inserted_own tid v [] = rw (own_key tid) refl
-  inserted_own tid v (e ∷ held) = by (nat_cmp tid e.0) refl (inserted_own tid v held)
-    where
-      by : (o : Ordering) → nat_cmp tid e.0 ≡ o → found tid (insert_entry nat_cmp held tid v) ≡ Some v
-          → found tid (match_ordering o ((tid, v) ∷ e ∷ held) ((e.0, v) ∷ held) (e ∷ insert_entry nat_cmp held tid v))
-          ≡ Some v
-      by Less is rest = rw (own_key tid) refl
-      by Equal is rest = rw is refl
-      by Greater is rest = rw is rest
+  inserted_own tid v (e ∷ held) = search (rules, nat_cmp, own_key, inserted_own tid v held)
 
   -- the value that takes the place of one that was found is found
   pub next_found : (tid : ℕ) (held after : List (ℕ × T)) (was next : T) → found tid held ≡ Some was

@@ -1,29 +1,22 @@
 -- A visit that did not close its transfer left it open. For five functions.
-use Rattle.tftp_loop.proofs.Common.{◌≡◌, ◌⊎◌, ℕ, Bool, true, false, List, Option, Some, None, refl, sym, ap, subst, ◌∙◌}
-use Rattle.tftp_loop.proofs.Common.{arith, inl, inr, ◌<◌, ◌≤◌, ◌+◌, length, map, is_some, IfSome, if◌then◌else◌}
-use Rattle.tftp_loop.proofs.Common.{slice_set, slice_index_or, cases_eq, SourceMeaning, Endpoint, Step, EndState}
-use Rattle.tftp_loop.proofs.Common.{outcome_of, record_of, StoreMeaning, TransferState, ServerState, at, draft_of}
-use Rattle.tftp_loop.proofs.Common.{is_closed, taken_of, KeepsHeld, with_end, Port, SocketEvent, ServerLoop}
-use Rattle.tftp_loop.proofs.Common.{TransferSocket, timer_of, AwaitVisit, WereVisited, IsHeld, IsOpen, IsSettled}
-use Rattle.tftp_loop.proofs.Common.{IsUnclosed, ReceivedFew, before_visit, timers_of, Timer, WorksAtPort}
+use Rattle.std.proofs.Common.{rules}
+use Rattle.tftp_loop.proofs.Common.{◌≡◌, ◌⊎◌, ℕ, false, List, Option, Some, None, refl, sym, ap, subst, ◌∙◌, ◌<◌, ◌≤◌}
+use Rattle.tftp_loop.proofs.Common.{◌+◌, length, map, is_some, if◌then◌else◌, slice_set, slice_index_or, cases_eq}
+use Rattle.tftp_loop.proofs.Common.{SourceMeaning, Endpoint, Step, EndState, outcome_of, StoreMeaning, TransferState}
+use Rattle.tftp_loop.proofs.Common.{ServerState, at, is_closed, taken_of, KeepsHeld, Port, SocketEvent, ServerLoop}
+use Rattle.tftp_loop.proofs.Common.{TransferSocket, timer_of, AwaitVisit, WereVisited, IsOpen, IsSettled, IsUnclosed}
+use Rattle.tftp_loop.proofs.Common.{ReceivedFew, before_visit, timers_of, Timer, WorksAtPort}
 use Rattle.tftp_ends.specs.declared.outgoing.Outgoing.{Outgoing}
 use Rattle.tftp_server.specs.Steps.{TakesDatagramLent, TimesOutLent}
 use Rattle.tftp_loop.specs.declared.port_visit.PortStatus.{PortStatus}
 use Rattle.tftp_loop.specs.declared.port_visit.PortStatus.TheVariants as statuses
 use Rattle.tftp_loop.specs.declared.port_visit.Pass.{Pass}
 use Rattle.tftp_loop.specs.declared.port_visit.Pass.TheVariants as passes
-use Rattle.tftp_loop.specs.MayWait.{IsNotVisited, WasVisited}
-use Rattle.tftp_loop.specs.MayWait.{IsUnclosedBy, UnlessClosed}
+use Rattle.tftp_loop.specs.MayWait.{IsNotVisited, WasVisited, UnlessClosed}
 use Rattle.tftp_loop.proofs.ListLemmas.{map_is, map_set, map_within}
 use Rattle.tftp_loop.proofs.PortLemmas.{found_next, found_timed}
 use Rattle.tftp_loop.proofs.Tables.{any_default, next_found, not_taken, set_own}
 use Rattle.tftp_loop.proofs.Visits.{works_unclosed}
-
--- ---- unless the status is that it closed
--- what holds in any case holds unless it closed
-pub unless_all : {P : Type 0} (status : PortStatus) → P → UnlessClosed status P
-unless_all statuses.Closed h = tt
-unless_all status h = h
 
 -- what follows unless a transfer closed may be replaced by what follows from it
 pub unless_map : {P Q : Type 0} (status : PortStatus) → (P → Q) → UnlessClosed status P → UnlessClosed status Q
@@ -39,9 +32,7 @@ module _ {F D : Type 0} where
   -- a transfer that is open cannot be taken
   open_untaken : (o : Option (TransferState F D)) (held : TransferState F D) → o ≡ Some held →
       is_closed held ≡ false → taken_of o ≡ None
-  open_untaken o held e h =
-      ap (λ (x : Option (TransferState F D)). taken_of x) e
-      ∙ ap (λ (b : Bool). if b then Some (record_of held.end, draft_of held.files) else None) h
+  open_untaken o held e h = search rules
 
 module _ {S F D : Type 0} (meaning : StoreMeaning S D) (sources : SourceMeaning F) (tid : ℕ)
     (old new : ServerState S F D) (step : Step) (outgoing : Outgoing) where
@@ -61,24 +52,19 @@ module _ {S F D : Type 0} (tid : ℕ) (old new : ServerState S F D) (step : Step
   pub open_timed : (port : ℕ) → tid ≡ port → (t : TimesOutLent tid old.held new.held step outgoing) →
       step.closed ≡ None → IsUnclosed port new.held
   open_timed port same t none =
-      rw (← same)
-      (open_untaken (at tid new.held) (with_end t.end t.transfer) (found_timed tid old new step outgoing t)
-      (ap (λ (e : EndState). is_some (outcome_of e.position.phase)) t.carries.state
-      ∙ sym (ap (λ (s : Step). is_some s.closed) t.reports) ∙ ap is_some none))
+      rw (← same) (open_untaken _ _ (found_timed tid old new step outgoing t) (ap (λ (e : EndState). is_some (outcome_of
+      e.position.phase)) t.carries.state ∙ sym (ap (λ (s : Step). is_some s.closed) t.reports) ∙ ap is_some none))
 
 module _ {S F D : Type 0} (meaning : StoreMeaning S D) (sources : SourceMeaning F) where
   -- a datagram that was lost left it open
   keeps_open : (port : ℕ) (o : Option (TransferState F D)) (old new : ServerState S F D) → at port old.held ≡ o →
       KeepsHeld meaning sources port o old new → IsUnclosed port old.held → IsUnclosed port new.held
-  keeps_open port None old new found keeps unclosed =
-      ap (λ (s : ServerState S F D). taken_of (at port s.held)) keeps ∙ unclosed
+  keeps_open port None old new found keeps unclosed = ap (λ s. taken_of (at port s.held)) keeps ∙ unclosed
   keeps_open port (Some transfer) old new found keeps unclosed =
       let next = keeps.0 in
-      let still =
-      not_taken (is_closed transfer) (record_of transfer.end, draft_of transfer.files)
-      (ap (λ (p : Option (TransferState F D)). taken_of p) (sym found) ∙ unclosed) in
-      open_untaken (at port new.held) next (next_found port old.held new.held transfer next found keeps.2)
-      (ap (λ (e : EndState). is_some (outcome_of e.position.phase)) keeps.1.end ∙ still)
+      let still = not_taken _ _ (ap (λ p. taken_of p) (sym found) ∙ unclosed) in
+      open_untaken _ _ (next_found _ _ _ _ _ found keeps.2) (ap (λ e. is_some (outcome_of e.position.phase)) keeps.1.end
+      ∙ still)
 
   -- a datagram that is lost leaves the transfer open
   pub lost_open : (tid port : ℕ) (old new : ServerState S F D) → tid ≡ port →
@@ -90,18 +76,7 @@ module _ {S F D : Type 0} (meaning : StoreMeaning S D) (sources : SourceMeaning 
   pub open_after : (port : ℕ) (middle new : ServerState S F D) →
       (new ≡ middle) ⊎ WorksAtPort meaning sources port middle new → IsUnclosed port middle.held
       → IsUnclosed port new.held
-  open_after port middle new (inl same) unclosed =
-      ap (λ (s : ServerState S F D). taken_of (at port s.held)) same ∙ unclosed
-  open_after port middle new (inr works) unclosed =
-      works_unclosed meaning sources port (at port middle.held) middle new refl works.works unclosed
-
--- the status of a timeout
-pub timeout_open : {F D : Type 0} (o : Option Step) (status : PortStatus) (port : ℕ)
-    (old new : List (ℕ × TransferState F D))
-    → IsUnclosedBy o port old new → UnlessClosed status (IfSome o (λ (step : Step). step.closed ≡ None))
-    → UnlessClosed status (IsUnclosed port old → IsUnclosed port new)
-timeout_open None status port old new keeps h = unless_all status keeps
-timeout_open (Some step) status port old new opens h = unless_map status (λ none was. opens none) h
+  open_after port middle new works unclosed = search (rules, taken_of, at, works_unclosed)
 
 module _ {S F D : Type 0} where
   -- a transfer that a visit left open is open at its index
@@ -112,21 +87,17 @@ module _ {S F D : Type 0} where
       IsOpen held (slice_index_or (map timer_of items) index t)
   open_at old index port next held items inside is_port set settled stays t =
       let within = map_within timer_of old.ports.items index inside in
-      let was : timer_of port ≡ slice_index_or (timers_of old) index (timer_of port) =
-      map_is timer_of old.ports.items index port is_port in
-      let own : slice_index_or (map timer_of items) index t ≡ timer_of next =
-      ap (λ (ts : List Timer). slice_index_or ts index t)
-      (ap (map timer_of) set ∙ map_set timer_of old.ports.items index next)
-      ∙ set_own (timers_of old) index (timer_of next) t within in
-      subst (IsOpen held) (sym own)
-      (stays (subst (IsOpen old.server.held) (sym was) (settled.none_closed index (timer_of port) within)))
+      let was = map_is timer_of old.ports.items index port is_port in
+      let own =
+      ap (λ (ts : List Timer). slice_index_or ts index t) (ap (map timer_of) set ∙ map_set timer_of old.ports.items
+      index next) ∙ set_own (timers_of old) index (timer_of next) t within in
+      subst (IsOpen held) (sym own) (stays (subst (IsOpen old.server.held) (sym was) (settled.none_closed index
+      (timer_of port) within)))
 
   own_visited : (pass : Pass) (d : ServerLoop S F D) (events : List SocketEvent) (timer : Timer) →
       IsNotVisited pass d.sockets.watch.now timer →
       ReceivedFew (before_visit pass) timer → timer.look_at ≤ timer.deadline → WasVisited pass d events timer
-  own_visited passes.Ready d events timer none few look =
-      ((λ marked. absurd (let e : false ≡ true = sym none ∙ marked in cc)), omega (arith, few))
-  own_visited passes.Due d events timer none few look = record { due = inl (omega (arith, none, look)); look = inl none }
+  own_visited pass d events timer none few look = search rules
 
   -- a port that a pass is not for was visited
   pub idle_visited : (pass : Pass) (index : ℕ) (d : ServerLoop S F D) (events : List SocketEvent)
@@ -138,15 +109,4 @@ module _ {S F D : Type 0} where
       let within = map_within timer_of d.ports.items index inside in
       let was : timer_of port ≡ slice_index_or (timers_of d) index (timer_of port) =
       map_is timer_of d.ports.items index port is_port in
-      elim (cases_eq k index) [
-        | inl same ↦
-            let own : timer_of port ≡ slice_index_or (timers_of d) k t =
-            was ∙ (any_default (timers_of d) index (timer_of port) t within
-            ∙ ap (λ (j : ℕ). slice_index_or (timers_of d) j t) (sym same)) in
-            subst (WasVisited pass d events) own
-            (own_visited pass d events (timer_of port) none
-            (subst (ReceivedFew (before_visit pass)) (sym was)
-            (waiting index (timer_of port) (omega arith) within))
-            (subst (IsHeld d.server.held) (sym was) (settled.kept.each index (timer_of port) within)).look)
-        | inr apart ↦ visited k t (omega (arith, l, apart)) h
-      ]
+      search (rules, cases_eq, timer_of, slice_index_or, timers_of, any_default, own_visited, before_visit)

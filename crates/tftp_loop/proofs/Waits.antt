@@ -1,20 +1,19 @@
 -- A wait, and when it is allowed. For four functions and eight other files.
 use Rattle.tftp_loop.proofs.Common.{arith, ◌≡◌, ◌<◌, ◌≤◌, ◌-◌, ◌||◌, ◌⊎◌, ◌+◌, ◌++◌, ℕ, zero, suc, Bool, List, [], ◌∷◌}
-use Rattle.tftp_loop.proofs.Common.{length, map, take, drop, min, true, false, Option, Some, None, IsSome, refl, sym}
-use Rattle.tftp_loop.proofs.Common.{ap, subst, ◌∙◌, slice_index_or, is_some, All, ◌≢◌, list_any, SourceMeaning}
-use Rattle.tftp_loop.proofs.Common.{Endpoint, StoreMeaning, TransferState, at, last_moment, LONGEST_WAIT, Port}
-use Rattle.tftp_loop.proofs.Common.{SocketEvent, Watched, Quiet, is_among, TransferSocket, ServerLoop, Run, Start, Then}
-use Rattle.tftp_loop.proofs.Common.{Timer, LoopState, LoopStep, deadline_by, marked_by, round_end, set_by, until_look}
-use Rattle.tftp_loop.proofs.Common.{Waited, Clock_read, pending_in, state_of, timer_of, AreSettled, AreKept, HasRead}
-use Rattle.tftp_loop.proofs.Common.{IsHeld, IsSettled, IsTended, ReceivedFew, timers_of, woken_if, length-map}
-use Rattle.std.proofs.Common.{get_or, set}
+use Rattle.tftp_loop.proofs.Common.{length, map, take, drop, min, true, false, Option, Some, None, refl, sym, ap, subst}
+use Rattle.tftp_loop.proofs.Common.{◌∙◌, slice_index_or, is_some, All, ◌≢◌, list_any, SourceMeaning, Endpoint}
+use Rattle.tftp_loop.proofs.Common.{StoreMeaning, TransferState, at, last_moment, LONGEST_WAIT, Port, SocketEvent}
+use Rattle.tftp_loop.proofs.Common.{Watched, Quiet, is_among, TransferSocket, ServerLoop, Run, Start, Then, Timer}
+use Rattle.tftp_loop.proofs.Common.{LoopState, LoopStep, deadline_by, marked_by, set_by, until_look, Waited, Clock_read}
+use Rattle.tftp_loop.proofs.Common.{pending_in, state_of, timer_of, AreSettled, AreKept, HasRead, IsSettled, IsTended}
+use Rattle.tftp_loop.proofs.Common.{ReceivedFew, timers_of, woken_if, length-map}
+use Rattle.std.proofs.Common.{get_or, set, rules, arith as std_arith}
 use Rattle.tftp_sockets.specs.Watch.{wait_of}
 use Rattle.tftp_sockets.specs.Trace.QuietEvent.{Slept, Woke}
 use Rattle.tftp_loop.specs.Steps.{MayWait, IsServed, most_millis, read_at}
 use Rattle.tftp_loop.specs.MayWait.{HasSlept, HasWoken, HasFew, millis_of, reads_of}
 use Rattle.std.proofs.lemmas.List.{get_or-map}
 use Rattle.std.proofs.lemmas.List.Elements.{All-map}
-use Rattle.tftp_loop.proofs.LoopRuns.{same_state}
 use Rattle.std.proofs.lemmas.Grind.{common_steps}
 use Rattle.std.proofs.lemmas.List.Edits.{map_over_more}
 
@@ -52,37 +51,23 @@ module _ {S F D : Type 0} where
   -- all is done that is to be done
   served : (buffer : List ℕ) (d : ServerLoop S F D) (events : List SocketEvent) → IsTended d events →
       All (IsServed (state_of buffer d events)) (timers_of d)
-  served buffer d events tended k t h =
-      let timed = tended.timed k t (omega arith) h in
-      record {
-        read = tended.read k t (omega arith) h;
-        due = timed.due;
-        look = timed.look;
-        not_closed = tended.settled.none_closed k t h;
-      }
+  served buffer d events tended k t h = search rules
 
   -- a reading of the clock changes no wait but by its time
   read_millis : (buffer : List ℕ) (d read : ServerLoop S F D) (before after : List SocketEvent) →
       HasRead d before read after →
       most_millis (read_at read.sockets.watch (state_of buffer d before)) ≡ millis_of read
   read_millis buffer d read before after r =
-      let time = read.sockets.watch.now in
-      let drain : read.drain ≡ d.drain = ap (λ (e : ServerLoop S F D). e.drain) r.rest in
-      let marked : read.sockets.is_ready ≡ d.sockets.is_ready =
-      ap (λ (e : ServerLoop S F D). e.sockets.is_ready) r.rest in
-      let pending : read.pending ≡ d.pending = ap (λ (e : ServerLoop S F D). e.pending) r.rest in
-      let ports : read.ports.items ≡ d.ports.items = ap (λ (e : ServerLoop S F D). e.ports.items) r.rest in
-      rw (
-        drain,
-        marked,
-        pending,
-        ports,
-        set_any time (timers_of d),
-        set_until time time (timers_of d),
-        pending_same d.pending buffer,
-        any_mapped d.ports.items,
-        looks_mapped time d.ports.items,
-      ) refl
+      grind (
+        std_arith,
+        common_steps,
+        set_any,
+        timers_of,
+        set_until,
+        pending_same,
+        any_mapped,
+        looks_mapped,
+      )
 
   -- a loop that was tended may wait
   pub may_wait : (buffer : List ℕ) (d read : ServerLoop S F D) (before after : List SocketEvent) (millis : ℕ)
@@ -92,14 +77,12 @@ module _ {S F D : Type 0} where
       → MayWait (state_of buffer d before) read.sockets.watch millis ports
   may_wait buffer d read before after millis ports r tended left rounds longest shortest =
       let watch = read.sockets.watch in
-      let same : most_millis (read_at watch (state_of buffer d before)) ≡ millis_of read =
-      read_millis buffer d read before after r in
+      let same = read_millis buffer d read before after r in
       record {
         read = refl;
         left = left;
         rounds = rounds;
-        requests =
-            λ h. tended.requests (ap (λ (b : Bool). reads_of d || b) (sym (pending_same d.pending buffer)) ∙ h);
+        requests = λ h. tended.requests (ap (λ (b : Bool). reads_of d || b) (sym (pending_same d.pending buffer)) ∙ h);
         transfers = served buffer d before tended;
         longest = omega (arith, longest, same);
         shortest = λ h. rw same (shortest h);
@@ -116,10 +99,6 @@ pub changed_more : {X : Type 0} (f : X → X) (xs ys : List X) (i : ℕ) (q d : 
     ys ≡ map f (take i xs) ++ drop i xs → q ≡ f (get_or ys i d)
     → set ys i q ≡ map f (take (i + 1) xs) ++ drop (i + 1) xs
 changed_more f xs ys i q d h e g = ap (set ys i) g ∙ map_over_more f xs ys i (get_or ys i d) h e (again ys i d)
-
--- what a slice of a vector's elements writes back
-pub written : {X : Type 0} (xs ys : List X) (n : ℕ) → length ys ≡ n → take n (ys ++ drop (length ys) xs) ≡ ys
-written xs ys n e = grind (arith, common_steps)
 
 -- a port is woken as its timer
 pub timers_woken : (time : ℕ) (reported : List ℕ) (ports : List (Port TransferSocket)) →
@@ -138,9 +117,7 @@ mapped_at f timers k d h = get_or-map f timers k d d h
 pub waited_at : (time : ℕ) (ports : List ℕ) (timers : List Timer) (k : ℕ) (d : Timer) → k < length timers →
     slice_index_or (map (marked_by ports) (map (set_by time) timers)) k d
     ≡ marked_by ports (set_by time (slice_index_or timers k d))
-waited_at time ports timers k d h =
-    mapped_at (marked_by ports) (map (set_by time) timers) k d (omega (arith, length-map timers (set_by time), h))
-    ∙ ap (marked_by ports) (mapped_at (set_by time) timers k d h)
+waited_at time ports timers k d h = search (rules, mapped_at, marked_by, map, set_by, length-map)
 
 -- what holds of each timer after a wait holds of all
 pub all_waited : (Q : Timer → Type 0) (time : ℕ) (ports : List ℕ) (timers : List Timer) →
@@ -164,10 +141,7 @@ deadline_later time true timer = omega arith
 deadline_later time false timer = omega arith
 
 sets : (time : ℕ) → Changes (set_by time)
-sets time = record {
-  port = λ t. refl;
-  look = λ t h. let later = deadline_later time t.provisional t in omega (arith, h, later);
-}
+sets time = search rules
 
 module _ {F D : Type 0} (held : List (ℕ × TransferState F D)) (f : Timer → Timer) (changes : Changes f)
     (timers : List Timer) where
@@ -176,28 +150,19 @@ module _ {F D : Type 0} (held : List (ℕ × TransferState F D)) (f : Timer → 
 
   port_of : (k : ℕ) (d : Timer) (h : k < length (map f timers)) →
       (slice_index_or (map f timers) k d).port ≡ (slice_index_or timers k d).port
-  port_of k d h =
-      ap (λ (t : Timer). t.port) (mapped_at f timers k d (short k h)) ∙ changes.port (slice_index_or timers k d)
+  port_of k d h = ap (λ t. t.port) (mapped_at f timers k d (short k h)) ∙ changes.port (slice_index_or timers k d)
 
   mapped_kept : AreKept held timers → AreKept held (map f timers)
   mapped_kept kept = record {
     apart = λ j k d e hj hk h.
         kept.apart j k d e (short j hj) (short k hk) (sym (port_of j d hj) ∙ (h ∙ port_of k e hk));
-    each = λ k d h.
-        let own = kept.each k d (short k h) in
-        let timer = slice_index_or timers k d in
-        subst (IsHeld held) (sym (mapped_at f timers k d (short k h)))
-        (record {
-          there = subst (λ (p : ℕ). IsSome (at p held)) (sym (changes.port timer)) own.there;
-          look = changes.look timer own.look;
-        });
+    each = grind (std_arith, common_steps, short, slice_index_or, mapped_at, at);
   }
 
   mapped_held : AreSettled held timers → AreSettled held (map f timers)
   mapped_held settled = record {
     kept = mapped_kept settled.kept;
-    none_closed = λ k d h.
-        rw (port_of k d h) (settled.none_closed k d (short k h));
+    none_closed = grind (std_arith, common_steps, port_of, short);
   }
 
 module _ {F D : Type 0} (held : List (ℕ × TransferState F D)) (time : ℕ) where
@@ -211,8 +176,7 @@ module _ {F D : Type 0} (held : List (ℕ × TransferState F D)) (time : ℕ) wh
   -- so does the end of a wait
   pub waited_kept : (ports : List ℕ) (timers : List Timer) → AreKept held timers →
       AreKept held (map (marked_by ports) (map (set_by time) timers))
-  waited_kept ports timers kept =
-      mapped_kept held (marked_by ports) (marks ports) (map (set_by time) timers) (set_kept timers kept)
+  waited_kept ports timers kept = search (rules, mapped_kept, marked_by, marks, map, set_by, set_kept)
 
 module _ {S F D : Type 0} (meaning : StoreMeaning S D) (sources : SourceMeaning F) where
   -- the clock before a wait that was allowed, the wait, its marks, and the clock after it
@@ -239,9 +203,8 @@ module _ {S F D : Type 0} (meaning : StoreMeaning S D) (sources : SourceMeaning 
         sockets = record old.sockets { poll = noted.sockets.poll; watch = read.sockets.watch; limit = limit };
       } in
       let is : noted ≡ by waited.limit =
-      slept.rest
-      ∙ (ap (λ (d : ServerLoop S F D). record d { sockets = record d.sockets { poll = noted.sockets.poll } }) reads.rest
-      ∙ ap by reads.limit) in
+      slept.rest ∙ (ap (λ (d : ServerLoop S F D). record d { sockets = record d.sockets { poll = noted.sockets.poll } })
+      reads.rest ∙ ap by reads.limit) in
       let woke = subst (λ (d : ServerLoop S F D). HasWoken ports d noted_events new after) is woken in
       Then (Then Start (Waited (record {
         watch = read.sockets.watch;
@@ -250,25 +213,11 @@ module _ {S F D : Type 0} (meaning : StoreMeaning S D) (sources : SourceMeaning 
         ports = ports;
         may = may;
         is = refl;
-      })))
-      (Clock_read (record {
+      }))) (Clock_read (record {
         watch = new.sockets.watch;
         woken = refl;
         by = record { time = woke.reading; forward = woke.now; soon = woke.soon };
-        is =
-            same_state (state_of buffer new after)
-            (record waited {
-              now = new.sockets.watch.now;
-              reading = new.sockets.watch.reading;
-              limit = round_end time waited.limit;
-              woken = false;
-              events = Watched new.sockets.watch ∷ waited.events;
-            })
-            woke.requests woke.range woke.longest woke.backoff woke.requests_only woke.per_client woke.server
-            (ap (λ (p : Option (Endpoint × ℕ)). pending_in p buffer) woke.pending) woke.timers refl woke.limit refl
-            woke.marked woke.asked woke.drain woke.left woke.rounds
-            (woke.events ∙ ap (λ (es : List SocketEvent). Watched new.sockets.watch ∷ es)
-            (slept.events ∙ ap (λ (es : List SocketEvent). Quiet (Woke ports) ∷ Quiet (Slept millis) ∷ es) reads.events));
+        is = search rules;
       }))
 
   -- the clock leaves what is settled
@@ -281,8 +230,7 @@ module _ {S F D : Type 0} (meaning : StoreMeaning S D) (sources : SourceMeaning 
   pub slept_settled : (old noted : ServerLoop S F D) (millis : ℕ) (ports : List ℕ) {before after : List SocketEvent} →
       HasSlept millis ports old before noted after →
       IsSettled old → IsSettled noted
-  slept_settled old noted millis ports slept settled =
-      subst (λ (d : ServerLoop S F D). IsSettled d) (sym slept.rest) settled
+  slept_settled old noted millis ports slept settled = search rules
 
   -- after a wait each transfer is settled as before it
   pub woken_settled : (noted new : ServerLoop S F D) (ports : List ℕ) {before after : List SocketEvent} →
@@ -290,9 +238,7 @@ module _ {S F D : Type 0} (meaning : StoreMeaning S D) (sources : SourceMeaning 
       IsSettled new
   woken_settled noted new ports woken settled =
       let time = noted.sockets.watch.now in
-      rw (woken.timers, woken.server)
-      (mapped_held noted.server.held (marked_by ports) (marks ports) (map (set_by time) (timers_of noted))
-      (set_held noted.server.held time (timers_of noted) settled))
+      rw (woken.timers, woken.server) (mapped_held _ _ (marks ports) _ (set_held _ time _ settled))
 
   -- and counts anew
   pub woken_few : (noted new : ServerLoop S F D) (ports : List ℕ) {before after : List SocketEvent} →

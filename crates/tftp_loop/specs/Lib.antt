@@ -4,6 +4,7 @@ pub mod Steps
 pub mod WholeRun
 pub mod LoopStates
 pub mod OnlyRequests
+pub mod RequestActions
 pub mod PortOrder
 pub mod PortPool
 pub mod PortVisit

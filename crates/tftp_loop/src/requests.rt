@@ -17,6 +17,7 @@ ghost use Rattle.tftp_loop.specs.PortPool.{IsOfPool, most_of};
 ghost use Rattle.tftp_loop.specs.Steps.{IsSet, answering_port, has_most, interval_at, started};
 ghost use Rattle.tftp_loop.specs.Steps.{with_timer};
 ghost use Rattle.tftp_loop.specs.OnlyRequests.{IsHandledBy, begins_as_request};
+ghost use Rattle.tftp_loop.specs.RequestActions.{IsActionOn, may_open_later};
 ghost use Rattle.tftp_loop.specs.Longest.{IsBoundedFor, longest_in};
 ghost use Rattle.tftp_loop.specs.LoopStates.{HasAnswered, HasRoom, IsAdmission, WorksRound, timer_of};
 ghost use Rattle.tftp_loop.specs.MayWait.{AnswersPending, HandlesReceived, HasTriedRequests};
@@ -40,6 +41,37 @@ use tftp_store::ServedStore;
 
 /// The port of a datagram whose sender has none, and gets no answer (RFC 768).
 const NO_PORT: u16 = 0;
+
+/// What is done about a datagram of the request port.
+#[derive(Drop)]
+enum RequestAction<'a> {
+    /// It gets no answer.
+    Ignore,
+    /// It is lost, because memory was refused.
+    NoMemory,
+    /// It is lost, because its client's address has this many transfers open, and may have no more.
+    TooMany(u8),
+    /// It opens no transfer.
+    Refuse(Admission<'a>),
+    /// It may open a transfer.
+    Open(Admission<'a>),
+}
+
+impl RequestAction<'_> {
+    /// Whether it may be `Open` once the datagrams of transfers are handled: an acknowledgement
+    /// that the client sent just before may free a slot.
+    fn may_open_later(&self) -> bool
+        ensures { result ≡ may_open_later self.now }
+    {
+        match self {
+            RequestAction::TooMany(_) => true,
+            RequestAction::Refuse(_) => true,
+            RequestAction::Open(_) => false,
+            RequestAction::Ignore => false,
+            RequestAction::NoMemory => false,
+        }
+    }
+}
 
 /// The most bytes that the files of all transfers read ahead: more leave a processor's cache before
 /// they are sent.
@@ -96,37 +128,10 @@ impl<S: ServedStore<Reason> + Drop> ServerLoop<S> {
             return;
         };
         let bytes = &request[..count.min(request.len())];
-        self.answer_pending(net, Datagram { from, bytes });
+        let datagram = Datagram { from, bytes };
+        let action = self.action_on(datagram);
+        self.carry_out(net, datagram, action);
         self.pending = None;
-    }
-
-    /// Answers the pending datagram of the request port.
-    fn answer_pending<N: ServerUdp + Eprint>(&mut self, net: &mut N, datagram: Datagram<'_>)
-        // The loop before the call.
-        requires settled { IsSettled self.old }
-        requires room { HasRoom self.old }
-        // What happens to the datagram.
-        ensures answers { AnswersPending S.meaning S.Source.meaning datagram.entry.from
-            datagram.entry.bytes.now self.old (N.log net.old) self.new (N.log net.new) }
-        ensures told { IsToldOnce (N.told net.old) (N.told net.new) }
-        // What stays.
-        ensures rounds { self.new.rounds ≡ self.old.rounds }
-        ensures room { HasRoom self.new }
-        ensures file { N.file net.new ≡ N.file net.old }
-    {
-        if self.drops(datagram.bytes) {
-            self.ignore(net, datagram);
-            return;
-        }
-        let Ok(admission) = self.server.admit(datagram.from, datagram.bytes) else {
-            self.lose_for_memory(net, datagram);
-            return;
-        };
-        if admission.may_open() {
-            self.open_or_lose(net, datagram, admission);
-            return;
-        }
-        self.refuse_request(net, datagram, admission);
     }
 
     /// Receives a datagram at the request port, and handles it.
@@ -175,11 +180,9 @@ impl<S: ServedStore<Reason> + Drop> ServerLoop<S> {
         }
     }
 
-    /// Handles a datagram that was received at the request port. One from port 0 is ignored, since no
-    /// answer can come there, and so is what does not begin as a request, if only requests are
-    /// handled. One that would open no transfer, or one too many of its client, stays pending: the
-    /// datagrams of transfers are handled first, and then it is admitted again, since an
-    /// acknowledgement that its client sent just before may free a slot.
+    /// Handles a datagram that was received at the request port. One that would open no transfer,
+    /// or one too many of its client, stays pending: the datagrams of transfers are handled first,
+    /// and then it is admitted again.
     fn take_received<N: ServerUdp + Eprint>(
         &mut self,
         net: &mut N,
@@ -191,7 +194,6 @@ impl<S: ServedStore<Reason> + Drop> ServerLoop<S> {
         requires settled { IsSettled self.old }
         requires room { HasRoom self.old }
         requires count { count ≤ length request.now }
-        requires pending { self.old.pending ≡ None }
         // What happens to the datagram.
         ensures handles { HandlesReceived S.meaning S.Source.meaning from count request.now
             self.old (N.log net.old) self.new (N.log net.new) }
@@ -202,24 +204,67 @@ impl<S: ServedStore<Reason> + Drop> ServerLoop<S> {
         ensures file { N.file net.new ≡ N.file net.old }
     {
         let bytes = &request[..count];
-        if from.port == NO_PORT {
-            self.ignore(net, Datagram { from, bytes });
+        let datagram = Datagram { from, bytes };
+        let action = self.action_on(datagram);
+        if action.may_open_later() {
+            self.pending = Some((from, count));
             return;
         }
-        if self.drops(bytes) {
-            self.ignore(net, Datagram { from, bytes });
-            return;
+        self.carry_out(net, datagram, action);
+        self.pending = None;
+    }
+
+    /// What is done about a datagram of the request port. One from port 0 is ignored, since no
+    /// answer can come there, and so is what does not begin as a request, if only requests are
+    /// handled.
+    fn action_on<'a>(&self, datagram: Datagram<'a>) -> RequestAction<'a>
+        ensures { IsActionOn self.now datagram.entry.from datagram.entry.bytes.now result }
+    {
+        if datagram.from.port == NO_PORT {
+            return RequestAction::Ignore;
         }
-        let Ok(admission) = self.server.admit(from, bytes) else {
-            self.lose_for_memory(net, Datagram { from, bytes });
-            return;
+        if self.drops(datagram.bytes) {
+            return RequestAction::Ignore;
+        }
+        let Ok(admission) = self.server.admit(datagram.from, datagram.bytes) else {
+            return RequestAction::NoMemory;
         };
-        if self.opens(from, &admission) {
-            self.open_request(net, Datagram { from, bytes }, admission);
-            self.pending = None;
-            return;
+        if !admission.may_open() {
+            return RequestAction::Refuse(admission);
         }
-        self.pending = Some((from, count));
+        match self.most_reached(datagram.from) {
+            Some(most) => RequestAction::TooMany(most),
+            None => RequestAction::Open(admission),
+        }
+    }
+
+    /// Carries out what is done about a datagram of the request port.
+    fn carry_out<N: ServerUdp + Eprint>(
+        &mut self,
+        net: &mut N,
+        datagram: Datagram<'_>,
+        action: RequestAction<'_>,
+    )
+        // The loop before the call.
+        requires settled { IsSettled self.old }
+        requires room { HasRoom self.old }
+        requires action { IsActionOn self.old datagram.from datagram.bytes.now action }
+        // What happens to the datagram.
+        ensures answers { AnswersPending S.meaning S.Source.meaning datagram.entry.from
+            datagram.entry.bytes.now self.old (N.log net.old) self.new (N.log net.new) }
+        ensures told { IsToldOnce (N.told net.old) (N.told net.new) }
+        // What stays.
+        ensures rounds { self.new.rounds ≡ self.old.rounds }
+        ensures room { HasRoom self.new }
+        ensures file { N.file net.new ≡ N.file net.old }
+    {
+        match action {
+            RequestAction::Ignore => self.ignore(net, datagram),
+            RequestAction::NoMemory => self.lose_for_memory(net, datagram),
+            RequestAction::TooMany(most) => self.lose(net, datagram, Lost::Client(most)),
+            RequestAction::Refuse(admission) => self.refuse_request(net, datagram, admission),
+            RequestAction::Open(admission) => self.open_request(net, datagram, admission),
+        }
     }
 
     /// Whether a datagram of the request port is dropped, as if the network had lost it: only requests
@@ -253,46 +298,6 @@ impl<S: ServedStore<Reason> + Drop> ServerLoop<S> {
             Some(most)
         } else {
             None
-        }
-    }
-
-    /// Whether an admission may open a transfer, and its client's address has fewer open than one may
-    /// have.
-    fn opens(&self, from: Endpoint, admission: &Admission<'_>) -> bool
-        ensures asks { result ≡ true → asks_store admission.now.ask ≡ true }
-        ensures few { result ≡ true
-            → has_most self.now.per_client from (timers_of self.now) ≡ false }
-    {
-        admission.may_open() && self.most_reached(from).is_none()
-    }
-
-    /// Carries out the admission of a datagram that may open a transfer, unless its client's address
-    /// has as many open as one may have: then it is lost.
-    fn open_or_lose<N: ServerUdp + Eprint>(
-        &mut self,
-        net: &mut N,
-        datagram: Datagram<'_>,
-        admission: Admission<'_>,
-    )
-        // The datagram and its admission.
-        requires admitted { IsAdmission self.old.server datagram.from datagram.bytes.now admission }
-        requires may_open { asks_store admission.ask ≡ true }
-        requires handled { IsHandledBy self.old.requests_only datagram.bytes.now }
-        // The loop before the call.
-        requires room { HasRoom self.old }
-        requires reserved { vec_len self.old.ports < vec_capacity self.old.ports }
-        // What happens to the datagram.
-        ensures answers { AnswersPending S.meaning S.Source.meaning datagram.entry.from
-            datagram.entry.bytes.now self.old (N.log net.old) self.new (N.log net.new) }
-        ensures told { IsToldOnce (N.told net.old) (N.told net.new) }
-        // What stays.
-        ensures rounds { self.new.rounds ≡ self.old.rounds }
-        ensures room { HasRoom self.new }
-        ensures file { N.file net.new ≡ N.file net.old }
-    {
-        match self.most_reached(datagram.from) {
-            Some(most) => self.lose(net, datagram, Lost::Client(most)),
-            None => self.open_request(net, datagram, admission),
         }
     }
 
@@ -401,7 +406,7 @@ impl<S: ServedStore<Reason> + Drop> ServerLoop<S> {
     {
         match opened.tid {
             Some(_) => self.begin(net, datagram, bound, opened.to),
-            None => self.refuse(net, datagram, opened.to, reason),
+            None => self.answer(net, datagram, opened.to, self.out.as_slice(), reason),
         }
     }
 
@@ -426,29 +431,33 @@ impl<S: ServedStore<Reason> + Drop> ServerLoop<S> {
         ensures file { N.file net.new ≡ N.file net.old }
     {
         match admission.refusal() {
-            Some(reply) => self.answer(net, datagram, Some(datagram.from), reply.datagram()),
-            None => self.answer(net, datagram, None, &[]),
+            Some(reply) => {
+                let answer = reply.datagram();
+                let reason = reason_unasked(answer);
+                self.answer(net, datagram, Some(datagram.from), answer, reason);
+            }
+            None => self.answer(net, datagram, None, &[], None),
         }
     }
 
-    /// Sends the answer, if there is one, to a datagram for which no store was asked, from the
-    /// request port.
+    /// Sends the answer, if there is one, to a datagram that opened no transfer, from the request
+    /// port. `reason` is why its name or a file call was refused, if one was.
     fn answer<N: ServerUdp + Eprint>(
-        &mut self,
+        &self,
         net: &mut N,
         datagram: Datagram<'_>,
         to: Option<Endpoint>,
         answer: &[u8],
+        reason: Option<Reason>,
     )
         ensures answers { HasAnswered datagram.entry.from (record { tid = None; to = to })
-            answer.now self.old (N.log net.old) self.new (N.log net.new) }
+            answer.now self.now (N.log net.old) self.now (N.log net.new) }
         ensures told { N.told net.new ≡ and_told (unopened_entry answer.now) (N.told net.old) }
         ensures file { N.file net.new ≡ N.file net.old }
     {
         let sent = reply(net, &self.sockets.requests, to, answer);
         count_unopened(net, answer);
         if self.log.is_written {
-            let reason = reason_unasked(answer);
             let port = self.sockets.requests.port();
             let refusal = Refusal {
                 answer,
@@ -478,35 +487,6 @@ impl<S: ServedStore<Reason> + Drop> ServerLoop<S> {
         net.count(Entry::Lost);
         if self.log.is_written {
             log_lost(&*net, self.alloc, self.log, datagram, lost);
-        }
-    }
-
-    /// Sends the answer, if there is one, to a datagram that opened no transfer, from the request
-    /// port.
-    fn refuse<N: ServerUdp + Eprint>(
-        &mut self,
-        net: &mut N,
-        datagram: Datagram<'_>,
-        to: Option<Endpoint>,
-        reason: Option<Reason>,
-    )
-        ensures answers { HasAnswered datagram.entry.from (record { tid = None; to = to })
-            self.old.out.items self.old (N.log net.old) self.new (N.log net.new) }
-        ensures told { N.told net.new
-            ≡ and_told (unopened_entry self.old.out.items) (N.told net.old) }
-        ensures file { N.file net.new ≡ N.file net.old }
-    {
-        let answer = self.out.as_slice();
-        let sent = reply(net, &self.sockets.requests, to, answer);
-        count_unopened(net, answer);
-        if self.log.is_written {
-            let port = self.sockets.requests.port();
-            let refusal = Refusal {
-                answer,
-                reason,
-                sent,
-            };
-            log_refused(&*net, self.alloc, self.log, port, datagram, refusal);
         }
     }
 

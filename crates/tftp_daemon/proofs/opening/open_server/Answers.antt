@@ -1,5 +1,5 @@
 -- The server has the store that was opened.
-use Rattle.std.proofs.Common.{◌≡◌, ◌∙◌, [], ap, subst, sym, option_map}
+use Rattle.std.proofs.Common.{◌≡◌, subst, sym, option_map}
 use Rattle.std.specs.String.{string_bytes}
 use Rattle.tftp_folder.specs.Counted.{lengths_in}
 use Rattle.tftp_folder.specs.Effects.{changes_of}
@@ -7,7 +7,7 @@ use Rattle.tftp_disk.specs.Changes.{changes}
 use Rattle.tftp_folder.specs.Inside.{StaysInside}
 use Rattle.tftp_folder.specs.Opened.{IsRootOf}
 use Rattle.tftp_folder.specs.declared.folder_store.FolderStore.{FolderStore}
-use Rattle.tftp_daemon.specs.Configured.{IsServerOf, IsUploads, drafts_in}
+use Rattle.tftp_daemon.specs.Configured.{IsUploads, drafts_in}
 use Rattle.tftp_daemon.proofs.opening.open_server.Goals as goal
 
 pub returns-in-Ok-new : goal.returns-in-Ok-new

@@ -1,5 +1,5 @@
 -- One more line is that of the next server.
-use Rattle.std.proofs.Common.{◌≡◌, ◌∙◌, ℕ, ◌+◌, length, map, ap}
+use Rattle.std.proofs.Common.{◌∙◌, ℕ, ◌+◌, length, map, ap}
 use Rattle.std.specs.String.{string_bytes}
 use Rattle.std.proofs.lemmas.List.{length_push}
 use Rattle.tftp_daemon.proofs.Supervising.{lines_pushed}

@@ -1,9 +1,7 @@
 -- The supervisor ran with the command lines of the configuration.
-use Rattle.std.proofs.Common.{◌≡◌, Result, Ok, length, map, subst}
+use Rattle.std.proofs.Common.{◌≡◌, Result, Ok, map, subst}
 use Rattle.std.specs.Prelude.{OnOk}
 use Rattle.std.specs.String.{string_bytes}
-use Rattle.tftp_supervisor.specs.PassedOn.{PassedOn}
-use Rattle.tftp_supervisor.specs.ProcessEvent.{AllSucceeded, started_in}
 use Rattle.tftp_supervisor.specs.declared.supervisor_fault.SupervisorFault.{SupervisorFault}
 use Rattle.tftp_daemon.proofs.Supervising.{supervised_so}
 use Rattle.tftp_daemon.proofs.servers.supervise.Goals as goal

@@ -1,5 +1,5 @@
 -- The view that was made looked for the place of the file.
-use Rattle.std.proofs.Common.{◌≡◌, List, subst}
+use Rattle.std.proofs.Common.{List, subst}
 use Rattle.std.proofs.lemmas.Result.{on_ok_weaker}
 use Rattle.tftp_disk.specs.DiskTrace.{DiskEvent}
 use Rattle.tftp_daemon.specs.Reports.{LooksOutside, folder_of}

@@ -1,5 +1,6 @@
 -- What is left of the order once its first ports are mixed and one is used.
-use Rattle.tftp_loop.proofs.Common.{subst, ◌∙◌, Some, IfSome, IsOneOf, PortRange}
+use Rattle.std.proofs.Common.{rules}
+use Rattle.tftp_loop.proofs.Common.{◌∙◌}
 use Rattle.std.proofs.lemmas.Option.{IfSome_then}
 use Rattle.tftp_loop.proofs.PoolLemmas.{mixed_within}
 use Rattle.tftp_loop.proofs.port_pool.draw_port.Goals as goal
@@ -11,9 +12,7 @@ pub returns-clause-range : goal.returns-clause-range
 returns-clause-range c = c.next_port.ensures.range ∙ c.mix.ensures.range
 
 pub returns-clause-port : goal.returns-clause-port
-returns-clause-port c =
-    subst (λ (range : PortRange). IfSome c.next_port.result (IsOneOf (Some range))) c.mix.ensures.range
-    c.next_port.ensures.port
+returns-clause-port c = search rules
 
 pub returns-clause-draws : goal.returns-clause-draws
 returns-clause-draws c =

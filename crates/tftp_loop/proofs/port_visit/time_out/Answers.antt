@@ -1,3 +1,5 @@
+use Rattle.std.proofs.lemmas.Grind.{common_steps}
+use Rattle.std.proofs.Common.{arith, rules}
 use Rattle.tftp_loop.proofs.Common.{ap, option_map, lent}
 use Rattle.tftp_loop.proofs.PortLemmas.{bytes_lent, found_timed, timed_out}
 use Rattle.tftp_loop.proofs.Unclosed.{open_timed}
@@ -8,15 +10,9 @@ returns-clause-steps g c =
     let t = c.in-Ok.ensures.steps in
     let found =
     found_timed c.port-tid.result c.args.server.now c.handle_timeout.new.self c.in-Ok.step c.in-Ok.outgoing t in
-    let sent =
-    bytes_lent c.bytes_of.result _ c.unwrap_or_default-answer.result _ (lent c.in-Ok.outgoing t.end) c.bytes_of.ensures
-    (ap (option_map (λ held. lent c.in-Ok.outgoing held.end)) found) c.unwrap_or_default-answer.ensures in
-    timed_out c.port-tid.result c.args.server.now c.handle_timeout.new.self c.in-Ok.step c.in-Ok.outgoing
-    c.args.udp.now.port
-    (g.N.Udp.log c.args.net.now) (g.N.Udp.log c.reply-sent.new.net) c.unwrap_or_default-answer.result.now c.port-tid.ensures t
-    c.in-Ok.ensures.rest sent c.reply-sent.ensures.events
+    let sent = bytes_lent _ _ _ _ _ c.bytes_of.ensures (ap (option_map (λ held. lent c.in-Ok.outgoing held.end)) found)
+    c.unwrap_or_default-answer.ensures in
+    search (rules, timed_out)
 
 pub returns-clause-open : goal.returns-clause-open
-returns-clause-open g c =
-    open_timed c.port-tid.result c.args.server.now c.handle_timeout.new.self c.in-Ok.step c.in-Ok.outgoing
-    c.args.udp.now.port c.port-tid.ensures c.in-Ok.ensures.steps
+returns-clause-open g c = grind (arith, common_steps, open_timed)

@@ -1,6 +1,5 @@
-use Rattle.tftp_loop.proofs.Common.{inl, map, refl, ap, ◌∙◌, Option, ℕ, Endpoint, Watch, Start, at_start, pending_in}
-use Rattle.tftp_loop.proofs.Common.{state_of, timer_of}
-use Rattle.tftp_loop.specs.declared.sockets.Sockets.{Sockets}
+use Rattle.std.proofs.Common.{rules}
+use Rattle.tftp_loop.proofs.Common.{inl, map, refl, ap, ◌∙◌, ℕ, Watch, Start, at_start, pending_in, state_of, timer_of}
 use Rattle.tftp_loop.proofs.RunLemmas.{onward, idle}
 use Rattle.tftp_loop.proofs.LoopRuns.{same_state}
 use Rattle.tftp_loop.proofs.Receipts.{ends_by, starts_few, starts_settled}
@@ -33,8 +32,7 @@ pub take_rounds-served-requires-clause-few : goal.take_rounds-served-requires-cl
 take_rounds-served-requires-clause-few g c = starts_few c.new-running.result c.new-running.ensures.ports
 
 pub take_rounds-served-requires-clause-first : goal.take_rounds-served-requires-clause-first
-take_rounds-served-requires-clause-first g c =
-    ap (λ (s : Sockets). s.has_received) c.new-running.ensures.sockets ∙ c.requires.asked
+take_rounds-served-requires-clause-first g c = search rules
 
 pub returns-clause-runs : goal.returns-clause-runs
 returns-clause-runs g c =
@@ -48,20 +46,12 @@ returns-clause-runs g c =
       reading = c.args.sockets.watch.reading;
       last = last;
       run =
-          onward
-          (idle (same_state begins
-          (at_start c.args.config.now c.args.sockets.requests.port c.args.server c.args.sockets.watch.reading
-          (g.N.Udp.log c.args.net.now))
-          (ap (λ (s : Sockets). s.requests.port) made.sockets)
-          (ap (λ (s : Sockets). s.pool.range) made.sockets ∙ c.requires.range) made.longest made.backoff made.requests_only made.per_client made.server
-          (ap (λ (p : Option (Endpoint × ℕ)). pending_in p request) made.pending) (ap (map timer_of) made.ports)
-          (ap (λ (s : Sockets). s.watch) made.sockets ∙ ap started_at c.requires.time)
-          (ap (λ (s : Sockets). s.limit) made.sockets ∙ c.requires.limit) refl
-          (ap (λ (s : Sockets). s.is_ready) made.sockets ∙ c.requires.marked)
-          (ap (λ (s : Sockets). s.has_received) made.sockets ∙ c.requires.asked) made.drain made.left made.rounds refl))
-          rounds.ensures.serves.serves;
+          onward (idle (same_state _ _ (ap (λ s. s.requests.port) made.sockets) (ap (λ s. s.pool.range) made.sockets ∙
+          c.requires.range) made.longest made.backoff made.requests_only made.per_client made.server (ap (λ p.
+          pending_in p request) made.pending) (ap (map timer_of) made.ports) (ap (λ s. s.watch) made.sockets ∙
+          ap started_at c.requires.time) (ap (λ s. s.limit) made.sockets ∙ c.requires.limit) refl (ap (λ s. s.is_ready)
+          made.sockets ∙ c.requires.marked) (ap (λ s. s.has_received) made.sockets ∙ c.requires.asked) made.drain
+          made.left made.rounds refl)) rounds.ensures.serves.serves;
       noted = c.report.ensures.events ∙ rounds.ensures.serves.noted;
-      ends =
-          ends_by rounds.result rounds.new.request rounds.new.self _ rounds.ensures.serves.served rounds.ensures.end
-          rounds.ensures.serves.fault;
+      ends = ends_by _ rounds.new.request _ _ _ rounds.ensures.end rounds.ensures.serves.fault;
     }

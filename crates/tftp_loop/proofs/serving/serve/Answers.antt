@@ -10,12 +10,10 @@ listen-requires-clause-range g c = ap (λ (pool : PoolState). pool.range) c.in-O
 pub returns-in-Ok-clause-runs : goal.returns-in-Ok-clause-runs
 returns-in-Ok-clause-runs g c =
     let port = c.in-Ok.sockets.requests.port in
-    let At : List ℕ → Type 0 = λ ip. RunsServerFrom g.S.Store.meaning g.S.Source.Source.meaning c.args.config.now
-    port c.args.server c.listen.result (listening ip port (g.N.Udp.log c.args.net.now))
-    (g.N.Udp.log c.listen.new.net) in
+    let At : List ℕ → Type 0 = λ ip. RunsServerFrom g.S.Store.meaning g.S.Source.Source.meaning c.args.config.now port
+    c.args.server c.listen.result (listening ip port (g.N.Udp.log c.args.net.now)) (g.N.Udp.log c.listen.new.net) in
     let bound = c.in-Ok.ensures.bound in
-    Bound port (record { same_ip = refl; same_port = bound.same_port; has_port = bound.has_port })
-    (subst At c.in-Ok.ensures.bound.same_ip c.listen.ensures.runs)
+    Bound port (search) (subst At c.in-Ok.ensures.bound.same_ip c.listen.ensures.runs)
 
 pub returns-in-Err-clause-runs : goal.returns-in-Err-clause-runs
 returns-in-Err-clause-runs g c = Unbound refl

@@ -1,5 +1,5 @@
-use Rattle.tftp_loop.proofs.Common.{arith, ℕ, refl, sym, ap, subst, inl, inr, ◌+◌, ◌∙◌, Empty, Failed, MOST_AT_ONCE}
-use Rattle.tftp_loop.proofs.Common.{Timer, timer_of, IsUnclosed}
+use Rattle.std.proofs.Common.{rules}
+use Rattle.tftp_loop.proofs.Common.{arith, refl, inl, inr, ◌∙◌}
 use Rattle.tftp_loop.proofs.PortRuns.{finds_nothing, fails_to_receive}
 use Rattle.tftp_loop.proofs.VisitLemmas.{idles, receives_none, serves_onward, serves_received, tried_received}
 use Rattle.tftp_loop.proofs.Unclosed.{unless_map}
@@ -12,9 +12,8 @@ pub loop-count-preserved : goal.loop-count-preserved
 loop-count-preserved g c =
     let noted = c.in-Datagram.ensures.noted in
     let answers = c.answer.ensures.answers in (
-      serves_onward g.N.Udp.log g.S.Store.meaning g.S.Source.Source.meaning c.loop-count.count 1 (c.loop-count.count + 1) _ _ _
-          (omega arith) c.loop-count.invariant.0
-          (serves_received g.N.Udp.log g.S.Store.meaning g.S.Source.Source.meaning _ c.loop-count.self _ _ refl noted answers),
+      serves_onward _ _ _ _ 1 _ _ _ _ (omega arith) c.loop-count.invariant.0 (serves_received g.N.Udp.log
+          g.S.Store.meaning g.S.Source.Source.meaning _ c.loop-count.self _ _ refl noted answers),
       let before = c.loop-count.invariant.1 in let one = c.answer.ensures.counted in omega (arith, before, one),
       inr (
         tried_received g.N.Udp.log g.S.Store.meaning g.S.Source.Source.meaning _ c.loop-count.self _ _ noted answers,
@@ -25,16 +24,11 @@ loop-count-preserved g c =
     )
 
 pub answer-requires : goal.answer-requires
-answer-requires g c =
-    let before = c.loop-count.invariant.1 in
-    let few = c.requires in
-    omega (arith, before, few)
+answer-requires g c = search rules
 
 pub returns-in_default-clause-serves : goal.returns-in_default-clause-serves
 returns-in_default-clause-serves g c =
-    serves_onward g.N.Udp.log g.S.Store.meaning g.S.Source.Source.meaning c.loop-count.count 1 MOST_AT_ONCE _ _ _ (omega arith)
-    c.loop-count.invariant.0
-    (serves_received g.N.Udp.log g.S.Store.meaning g.S.Source.Source.meaning _ c.loop-count.self _ _ refl
+    serves_onward _ _ _ _ 1 _ _ _ _ (omega arith) c.loop-count.invariant.0 (serves_received _ _ _ _ _ _ _ refl
     c.in-Datagram.ensures.noted c.answer.ensures.answers)
 
 pub returns-in_default-clause-tried : goal.returns-in_default-clause-tried
@@ -50,43 +44,26 @@ pub returns-in-Nothing-clause-serves : goal.returns-in-Nothing-clause-serves
 returns-in-Nothing-clause-serves g c =
     let visit = c.loop-count.self in
     let noted = c.in-Nothing.ensures.noted in
-    serves_onward g.N.Udp.log g.S.Store.meaning g.S.Source.Source.meaning c.loop-count.count 0 MOST_AT_ONCE _ _ _ (omega arith)
-    c.loop-count.invariant.0 (record {
+    serves_onward _ _ _ _ 0 _ _ _ _ (omega arith) c.loop-count.invariant.0 (record {
       same = record { server = refl; port = refl; net = refl; now = refl; active = refl };
-      serves =
-          finds_nothing g.S.Store.meaning g.S.Source.Source.meaning visit.now visit.server.now (timer_of visit.port.now)
-          (timer_of c.mark_empty.new.port) (g.N.Udp.log visit.net.now) (g.N.Udp.log c.receive.new.self) noted
+      serves = finds_nothing g.S.Store.meaning g.S.Source.Source.meaning visit.now visit.server.now _ _ _ _ noted
           c.mark_empty.ensures;
-      received =
-          receives_none
-          (Empty visit.port.now.socket.udp.port) 0 (g.N.Udp.log visit.net.now) (g.N.Udp.log c.receive.new.self) noted;
+      received = receives_none _ 0 _ _ noted;
     })
 
 pub returns-in-Failed-clause-serves : goal.returns-in-Failed-clause-serves
 returns-in-Failed-clause-serves g c =
     let visit = c.loop-count.self in
     let noted = c.in-Failed.ensures.noted in
-    serves_onward g.N.Udp.log g.S.Store.meaning g.S.Source.Source.meaning c.loop-count.count 0 MOST_AT_ONCE _ _ _ (omega arith)
-    c.loop-count.invariant.0 (record {
+    serves_onward _ _ _ _ 0 _ _ _ _ (omega arith) c.loop-count.invariant.0 (record {
       same = record { server = refl; port = refl; net = refl; now = refl; active = refl };
-      serves =
-          fails_to_receive g.S.Store.meaning g.S.Source.Source.meaning visit.now visit.server.now
-          (timer_of visit.port.now)
-          (timer_of c.mark_ready.new.port) (g.N.Udp.log visit.net.now) (g.N.Udp.log c.receive.new.self) noted
+      serves = fails_to_receive g.S.Store.meaning g.S.Source.Source.meaning visit.now visit.server.now _ _ _ _ noted
           c.mark_ready.ensures;
-      received =
-          receives_none
-          (Failed visit.port.now.socket.udp.port) 0 (g.N.Udp.log visit.net.now) (g.N.Udp.log c.receive.new.self) noted;
+      received = receives_none _ 0 _ _ noted;
     })
 
 pub returns-in-Nothing-clause-open : goal.returns-in-Nothing-clause-open
-returns-in-Nothing-clause-open g c =
-    λ unclosed.
-    subst (λ (p : ℕ). IsUnclosed p c.loop-count.self.server.now.held)
-    (sym (ap (λ (t : Timer). t.port) c.mark_empty.ensures)) (c.loop-count.invariant.3 unclosed)
+returns-in-Nothing-clause-open g c = search rules
 
 pub returns-in-Failed-clause-open : goal.returns-in-Failed-clause-open
-returns-in-Failed-clause-open g c =
-    λ unclosed.
-    subst (λ (p : ℕ). IsUnclosed p c.loop-count.self.server.now.held)
-    (sym (ap (λ (t : Timer). t.port) c.mark_ready.ensures)) (c.loop-count.invariant.3 unclosed)
+returns-in-Failed-clause-open g c = search rules

@@ -1,4 +1,6 @@
-use Rattle.tftp_loop.proofs.Common.{refl, ap, Start, state_of}
+use Rattle.std.proofs.lemmas.Grind.{common_steps}
+use Rattle.std.proofs.Common.{arith}
+use Rattle.tftp_loop.proofs.Common.{refl, Start, state_of}
 use Rattle.tftp_loop.proofs.Receipts.{drains_as, found_it, found_nothing}
 use Rattle.tftp_loop.proofs.RunLemmas.{idle}
 use Rattle.tftp_loop.proofs.server_loop.ServerLoop.look_at_signal.Goals as goal
@@ -10,10 +12,7 @@ pub returns-then-now-self-clause-works : goal.returns-then-now-self-clause-works
 returns-then-now-self-clause-works g c = λ buffer. Start
 
 pub returns-then-not-is_signalled-clause-works : goal.returns-then-not-is_signalled-clause-works
-returns-then-not-is_signalled-clause-works g c =
-    λ buffer.
-    idle (ap (state_of buffer c.args.self.now) (found_nothing c.is_signalled.result _ _ _ c.if-not-is_signalled.true
-    c.is_signalled.ensures.noted))
+returns-then-not-is_signalled-clause-works g c = grind (arith, common_steps, idle, state_of, found_nothing)
 
 pub returns-clause-works : goal.returns-clause-works
 returns-clause-works g c =

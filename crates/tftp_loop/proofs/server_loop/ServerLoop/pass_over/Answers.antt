@@ -1,3 +1,5 @@
+use Rattle.std.proofs.Common.{arith as std_arith}
+use Rattle.std.proofs.lemmas.Grind.{common_steps}
 use Rattle.tftp_loop.proofs.Common.{arith, refl, ◌∙◌, length-map, Start, timer_of}
 use Rattle.tftp_loop.proofs.RunLemmas.{onward}
 use Rattle.tftp_loop.proofs.server_loop.ServerLoop.pass_over.Goals as goal
@@ -36,13 +38,10 @@ pub returns-then-self-eq0-clause-works : goal.returns-then-self-eq0-clause-works
 returns-then-self-eq0-clause-works g c = c.loop-index.invariant.works
 
 pub returns-in_err-visit-clause-works : goal.returns-in_err-visit-clause-works
-returns-in_err-visit-clause-works g c =
-    λ buffer. onward (c.loop-index.invariant.works buffer) (c.visit.ensures.works buffer)
+returns-in_err-visit-clause-works g c = grind (std_arith, common_steps, onward)
 
 pub returns-clause-visited : goal.returns-clause-visited
-returns-clause-visited g c =
-    let test = c.loop-index-test.false in
-    λ some k d l h. c.loop-index.invariant.visited k d (omega (arith, test)) h
+returns-clause-visited g c = grind (std_arith, common_steps)
 
 pub visit-requires-clause-waiting : goal.visit-requires-clause-waiting
 visit-requires-clause-waiting g c =

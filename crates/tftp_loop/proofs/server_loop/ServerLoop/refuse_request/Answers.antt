@@ -10,10 +10,10 @@ returns-in-Some-clause-answers g c =
     let a = c.answer.ensures.answers in
     let s = loop_state (Some (d.from, d.bytes.now)) c.args.self.now (g.N.Udp.log c.args.net.now) in
     let M = g.S.Store.meaning in
-    refuses_as M g.S.Source.Source.meaning s (loop_state None c.answer.new.self (g.N.Udp.log c.answer.new.net)) d.from d.bytes.now
+    refuses_as M g.S.Source.Source.meaning s (loop_state None c.args.self.now (g.N.Udp.log c.answer.new.net)) d.from d.bytes.now
     c.args.admission.ask refl c.requires.handled c.requires.admitted.admits c.requires.opens_none
     (same_state _ _ a.requests a.range a.longest a.backoff a.requests_only a.per_client a.server refl a.timers a.watch a.limit refl a.marked a.asked a.drain a.left_to_close a.rounds
-    (a.events ∙ (ap (λ (bytes : List ℕ). replied s.requests (Some d.from) bytes s.events) c.datagram.ensures.bytes
+    (a.events ∙ (ap (λ (bytes : List ℕ). replied s.requests (Some d.from) bytes s.events) c.datagram-answer.ensures.bytes
     ∙ ap (λ (o : Option ErrorReply). replied s.requests (refused_to d.from o)
     (refused_bytes o) s.events) (sym c.in-Some.is ∙ c.refusal.ensures))))
 
@@ -23,7 +23,7 @@ returns-clause-answers g c =
     let a = c.answer-in-None.ensures.answers in
     let s = loop_state (Some (d.from, d.bytes.now)) c.args.self.now (g.N.Udp.log c.args.net.now) in
     let M = g.S.Store.meaning in
-    refuses_as M g.S.Source.Source.meaning s (loop_state None c.answer-in-None.new.self (g.N.Udp.log c.answer-in-None.new.net)) d.from d.bytes.now
+    refuses_as M g.S.Source.Source.meaning s (loop_state None c.args.self.now (g.N.Udp.log c.answer-in-None.new.net)) d.from d.bytes.now
     c.args.admission.ask refl c.requires.handled c.requires.admitted.admits c.requires.opens_none
     (same_state _ _ a.requests a.range a.longest a.backoff a.requests_only a.per_client a.server refl a.timers a.watch a.limit refl a.marked a.asked a.drain a.left_to_close a.rounds
     (a.events

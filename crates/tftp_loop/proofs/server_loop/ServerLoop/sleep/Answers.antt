@@ -11,21 +11,14 @@ returns-clause-serves g c =
     let reads = c.read_clock.ensures.reads in
     let own = c.requires.tended in
     λ buffer.
-    waits_as g.S.Store.meaning g.S.Source.Source.meaning buffer _ read c.wait_for_ports.new.self c.wake.new.self
-    millis ports reads
-    (may_wait buffer _ read _ _ millis ports reads
-    (record { settled = own.settled; read = own.read; timed = own.timed; requests = own.requests }) c.requires.left
-    c.requires.rounds (omega arith) (λ h. inl h)) c.wait_for_ports.ensures.slept c.wake.ensures.woken
+    waits_as g.S.Store.meaning g.S.Source.Source.meaning _ _ _ _ _ _ _ reads (may_wait buffer _ _ _ _ _ _ reads (search)
+    c.requires.left c.requires.rounds (omega arith) (λ h. inl h)) c.wait_for_ports.ensures.slept c.wake.ensures.woken
 
 pub returns-clause-settled : goal.returns-clause-settled
 returns-clause-settled g c =
-    woken_settled g.S.Store.meaning g.S.Source.Source.meaning c.wait_for_ports.new.self c.wake.new.self
-    c.wait_for_ports.new.reports.ports.items c.wake.ensures.woken
-    (slept_settled g.S.Store.meaning g.S.Source.Source.meaning _ c.wait_for_ports.new.self _ _ c.wait_for_ports.ensures.slept
-    (read_settled g.S.Store.meaning g.S.Source.Source.meaning _ c.read_clock.new.self c.read_clock.ensures.reads
-    c.requires.tended.settled))
+    woken_settled g.S.Store.meaning g.S.Source.Source.meaning _ _ _ c.wake.ensures.woken (slept_settled
+    g.S.Store.meaning g.S.Source.Source.meaning _ _ _ _ c.wait_for_ports.ensures.slept (read_settled g.S.Store.meaning
+    g.S.Source.Source.meaning _ _ c.read_clock.ensures.reads c.requires.tended.settled))
 
 pub returns-clause-few : goal.returns-clause-few
-returns-clause-few g c =
-    woken_few g.S.Store.meaning g.S.Source.Source.meaning c.wait_for_ports.new.self c.wake.new.self
-    c.wait_for_ports.new.reports.ports.items c.wake.ensures.woken
+returns-clause-few g c = woken_few g.S.Store.meaning g.S.Source.Source.meaning _ _ _ c.wake.ensures.woken

@@ -1,4 +1,5 @@
-use Rattle.tftp_loop.proofs.Common.{◌<◌, length, arith, Start, state_of, timer_of}
+use Rattle.std.proofs.Common.{rules}
+use Rattle.tftp_loop.proofs.Common.{◌<◌, length, arith, Start, timer_of}
 use Rattle.tftp_loop.proofs.ListLemmas.{map_is, map_within}
 use Rattle.tftp_loop.proofs.LoopRuns.{works}
 use Rattle.tftp_loop.proofs.Reserving.{room_same}
@@ -17,10 +18,8 @@ returns-clause-works g c =
     let port = c.index-port.result.now in
     let within : c.in-Some.index < length ports.items =
     omega (arith, ports.ok.0, c.len.ensures, c.if-index-len.false) in
-    λ events buffer. works g.S.Store.meaning g.S.Source.Source.meaning (state_of buffer c.args.self.now events) c.in-Some.index
-    (timer_of port) c.work_at.new.server
-    (map_within timer_of ports.items c.in-Some.index within)
-    (map_is timer_of ports.items c.in-Some.index port c.index-port.ensures) c.work_at.ensures
+    λ events buffer. works _ _ _ _ _ _ (map_within timer_of ports.items c.in-Some.index within) (map_is timer_of
+    ports.items c.in-Some.index port c.index-port.ensures) c.work_at.ensures
 
 pub returns-clause-settled : goal.returns-clause-settled
 returns-clause-settled g c =
@@ -28,8 +27,7 @@ returns-clause-settled g c =
     let port = c.index-port.result.now in
     let within : c.in-Some.index < length ports.items =
     omega (arith, ports.ok.0, c.len.ensures, c.if-index-len.false) in
-    λ settled. works_settled g.S.Store.meaning g.S.Source.Source.meaning c.args.self.now _ c.in-Some.index port within
-    c.index-port.ensures c.work_at.ensures Rattle.std.proofs.Common.refl settled
+    search (rules, works_settled)
 
 pub returns-clause-room : goal.returns-clause-room
 returns-clause-room g c = λ room. room_same c.work_at.ensures.config room

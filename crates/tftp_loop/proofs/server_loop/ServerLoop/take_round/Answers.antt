@@ -1,4 +1,6 @@
-use Rattle.tftp_loop.proofs.Common.{arith, ap, ◌∙◌, ServerLoop}
+use Rattle.std.proofs.Common.{arith as std_arith}
+use Rattle.std.proofs.lemmas.Grind.{common_steps}
+use Rattle.tftp_loop.proofs.Common.{arith, ServerLoop}
 use Rattle.std.proofs.lemmas.Result.{on_ok_weaker}
 use Rattle.tftp_loop.proofs.LoopStays.{work_keeps}
 use Rattle.tftp_loop.proofs.Receipts.{from_state, to_state}
@@ -6,12 +8,10 @@ use Rattle.tftp_loop.proofs.RunLemmas.{onward}
 use Rattle.tftp_loop.proofs.server_loop.ServerLoop.take_round.Goals as goal
 
 pub returns-in_err-pass_over-clause-works : goal.returns-in_err-pass_over-clause-works
-returns-in_err-pass_over-clause-works g c =
-    onward (c.look_at_signal.ensures.works c.args.request.now) (c.pass_over.ensures.works c.args.request.now)
+returns-in_err-pass_over-clause-works g c = grind (std_arith, common_steps, onward)
 
 pub returns-then-self-eq0-clause-works : goal.returns-then-self-eq0-clause-works
-returns-then-self-eq0-clause-works g c =
-    onward (c.look_at_signal.ensures.works c.args.request.now) (c.pass_over.ensures.works c.args.request.now)
+returns-then-self-eq0-clause-works g c = grind (std_arith, common_steps, onward)
 
 pub returns-clause-works : goal.returns-clause-works
 returns-clause-works g c =
@@ -41,14 +41,7 @@ returns-clause-tended g c =
     c.pass_over-2.ensures.visited
 
 pub take_request-requires : goal.take_request-requires
-take_request-requires g c = record {
-  long = c.requires.long_request;
-  settled = c.pass_over.ensures.settled;
-  room = c.pass_over.ensures.room (c.look_at_signal.ensures.room c.requires.room);
-  first =
-      c.pass_over.ensures.asked ∙ ap (λ (d : ServerLoop _ _ _). d.sockets.has_received) c.look_at_signal.ensures.rest
-      ∙ c.requires.first;
-}
+take_request-requires g c = grind (std_arith, common_steps)
 
 pub pass_over-requires-2-clause-few : goal.pass_over-requires-2-clause-few
 pass_over-requires-2-clause-few g c =
