@@ -56,9 +56,8 @@ impl RequestPort {
         ensures shared { IsSome result.share }
     {
         RequestPort {
-            at: socket.endpoint,
-            socket: Some(socket),
             share: Some(Share::new()),
+            ..RequestPort::handed(socket)
         }
     }
 
