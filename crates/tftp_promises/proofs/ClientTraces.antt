@@ -1,11 +1,12 @@
 -- What a client notes, step by step.
+use Rattle.std.proofs.Common.{rules as std_rules}
 use Rattle.tftp_promises.proofs.Common.{List, ℕ, ◌≡◌, rules, sym, Endpoint, refl, ◌∙◌, ap, SourceMeaning, Some, inl}
 use Rattle.tftp_promises.proofs.Common.{inr, ◌∷◌, SinkMeaning, false, None, ◌++◌, EndState, ◌⊎◌, Contains, Files}
-use Rattle.tftp_promises.proofs.Common.{SocketEvent, Option, arith, Sent, outcome_of, Received, State, Reply, Elapsed}
-use Rattle.tftp_promises.proofs.Common.{timeout_turn, Receives_one, append_cancel_right, Outcome, ClientDoes, Watched}
-use Rattle.tftp_promises.proofs.Common.{Quiet, Act, answered, Answers, ClientOpens, common_steps, Waits_until, Goes_on}
-use Rattle.tftp_promises.proofs.Common.{ClientRun, Starts, begun, Times_out, acts_in, HandlesReceived, Loses, is_some}
-use Rattle.tftp_promises.proofs.Common.{To_read, Took, File_works, Said, ClientProgram, Elapses, To_write, Lost, Timed}
+use Rattle.tftp_promises.proofs.Common.{SocketEvent, Option, arith, Sent, outcome_of, Received, State, Reply}
+use Rattle.tftp_promises.proofs.Common.{Receives_one, append_cancel_right, Outcome, ClientDoes, Watched, Quiet, Act}
+use Rattle.tftp_promises.proofs.Common.{answered, Answers, ClientOpens, common_steps, Waits_until, Goes_on, ClientRun}
+use Rattle.tftp_promises.proofs.Common.{Starts, begun, Times_out, acts_in, HandlesReceived, Loses, is_some, To_read}
+use Rattle.tftp_promises.proofs.Common.{Took, File_works, Said, ClientProgram, Elapses, To_write, Lost, Timed}
 use Rattle.tftp_promises.proofs.Common.{AllByRecursion, Slept, MayElapse, Stays, with_reply, Backoff, IsSome, IsOpen}
 use Rattle.tftp_promises.proofs.Common.{newest, Life, IsNoActAt, IsEventOf, Begins_so, Tells, wait_at, Begins, Times}
 use Rattle.tftp_promises.proofs.Common.{Opens, Hears, Empty, Sends, AreNoted, QuietEvent, []}
@@ -23,11 +24,8 @@ module _ (port : ℕ) (before : List SocketEvent) where
   -- by an event that is no act
   pub noted_on : (events : List SocketEvent) (acts : List Act) (e : SocketEvent) → IsNoActAt port e → Noted events acts →
       Noted (e ∷ events) acts
-  noted_on events acts e other h = record {
-    noted = e ∷ h.noted;
-    is = ap (λ (es : List SocketEvent). e ∷ es) h.is;
-    tells = Passes e other h.tells;
-  }
+  noted_on events acts e other h =
+      search (e ∷ h.noted, ap (λ (es : List SocketEvent). e ∷ es) h.is, Passes e other h.tells)
 
   -- by an act
   act_told : {events : List SocketEvent} {acts : List Act} (e : SocketEvent) (act : Act) → IsEventOf port e act →
@@ -58,16 +56,12 @@ module _ {port : ℕ} (P : List SocketEvent → List Act → Type 0)
     IsEventOf port e act → P events acts → P (e ∷ events) (act ∷ acts)) where
   replied : (events : List SocketEvent) (acts : List Act) (reply : Option Reply) → P events acts →
       P (answered port reply events) (with_reply reply acts)
-  replied events acts None h = h
-  replied events acts (Some reply) h =
-      acted events acts (Sent port reply.to reply.bytes) (Said reply.to reply.bytes) refl refl h
+  replied events acts reply h = search std_rules
 
   elapsed_so : {s next : State} (acts : List Act) (elapses : MayElapse port s next) → P s.events acts →
       P next.events (elapsing_acts elapses acts)
   elapsed_so acts (Stays why) h = h
-  elapsed_so {s} acts (Elapses due still) h =
-      replied (Elapsed port s.now ∷ s.events) (Timed ∷ acts) (timeout_turn s.end).reply
-      (acted s.events acts (Elapsed port s.now) Timed refl (s.now, refl) h)
+  elapsed_so {s} acts (Elapses due still) h = search std_rules
 
   module _ {G K : Type 0} {inputs : SourceMeaning G} {outputs : SinkMeaning K} where
     handled_so : {from : Endpoint} {bytes : List ℕ} {s next : State} {files files' : Files G K} (acts : List Act)
@@ -119,10 +113,8 @@ module _ {G K : Type 0} {inputs : SourceMeaning G} {outputs : SinkMeaning K} whe
       (run : ClientRun inputs outputs port (begun backoff port reading end before) file s files) →
       AreNoted port before s.events (acts_in run)
   client_noted before {port} {end = end} run =
-      run_so (Noted port before) (λ events acts e own. noted_on port before events acts e)
-      (λ events acts e act own. noted_act port before events acts e act) run
-      (noted_act port before before [] (Sent port end.position.last_sent_to end.position.last_sent) (newest end) refl
-      (record { noted = []; is = refl; tells = Begins_so }))
+      run_so _ (λ events acts e own. noted_on port before events acts e) (λ events acts e act own. noted_act port before
+      events acts e act) run (noted_act _ before _ _ _ _ refl (record { noted = []; is = refl; tells = Begins_so }))
 
   -- the request goes to the server
   pub asks_there : {to : Endpoint} {first : EndState} {file : Files G K} → ClientOpens inputs outputs to first file →
@@ -147,7 +139,6 @@ module _ {G K : Type 0} {inputs : SourceMeaning G} {outputs : SinkMeaning K} whe
         IsOfPort client.port e ⊎ (Sent client.port to client.first.position.last_sent ≡ e)
     own_event e h =
         let asks = asks_first to client in
-        let request = Sent client.port to client.first.position.last_sent in
         grind (arith, common_steps)
 
     pub sent_own : (port : ℕ) (a : Endpoint) (bytes : List ℕ) → Contains client.noted (Sent port a bytes) →

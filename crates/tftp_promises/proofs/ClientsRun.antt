@@ -109,24 +109,9 @@ module _ {G K : Type 0} (inputs : SourceMeaning G) (outputs : SinkMeaning K) {to
   program_of ip {first} {file} opens before backoff port reading last files runs =
       let since = converse runs in
       let asked : List SocketEvent = Sent port first.position.last_sent_to first.position.last_sent ∷ [] in
-      let notes : last.events ≡ (since.0 ++ asked) ++ before =
-      since.1 ∙ sym (append_assoc since.0 asked before) in
+      let notes : last.events ≡ (since.0 ++ asked) ++ before = since.1 ∙ sym (append_assoc since.0 asked before) in
       record {
-        client = record {
-          ip = ip;
-          port = port;
-          reading = reading;
-          backoff = backoff;
-          first = first;
-          before = before;
-          last = last;
-          files = files;
-          file = file;
-          runs = runs;
-          opens = opens;
-          noted = since.0 ++ asked;
-          is_noted = notes;
-        };
+        client = search (since.0 ++ asked);
         address = refl;
         end = refl;
         name = refl;
@@ -141,12 +126,10 @@ pub clients_are_programs : {G K : Type 0} (inputs : SourceMeaning G) (outputs : 
 clients_are_programs inputs outputs to ip first file opens before backoff port reading s files converses = record {
   runs_so =
       let so = goes_so Starts converses in
-      subst (λ (m : Moved). IsClientRun inputs outputs ip opens before s m) so.1
-      (program_of inputs outputs ip opens before backoff port reading s files so.0);
+      rw (← so.1) (program_of inputs outputs ip opens before backoff port reading s files so.0);
   stays_so = λ line after stays.
       let so = goes_so Starts converses in
       let on = goes_so (Goes_on so.0 (Prints_line line)) stays.converses in
-      subst (λ (m : Moved). IsClientRun inputs outputs ip opens before stays.last m)
-      (on.1 ∙ ap (λ (m : Moved). run_moves stays.converses m) so.1)
-      (program_of inputs outputs ip opens before backoff port reading stays.last stays.files on.0);
+      rw (← on.1 ∙ ap (λ (m : Moved). run_moves stays.converses m) so.1) (program_of inputs outputs ip opens before
+      backoff port reading stays.last stays.files on.0);
 }

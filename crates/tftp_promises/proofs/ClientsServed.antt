@@ -1,15 +1,17 @@
 -- In the end state of the traces no two ends share an endpoint, and the peer of a client is the transfer of the server
 -- that its request opened, for the path of its name.
+use Rattle.std.proofs.lemmas.Grind.{common_steps}
+use Rattle.std.proofs.Common.{arith, rules as std_rules}
 use Rattle.tftp_promises.proofs.Common.{List, ℕ, ◌≡◌, rules, sym, Endpoint, refl, [], ◌∙◌, ap, SourceMeaning, Some}
 use Rattle.tftp_promises.proofs.Common.{subst, inl, StoreMeaning, inr, SinkMeaning, false, true, Programs, Bool}
 use Rattle.tftp_promises.proofs.Common.{EndState, Contains, Files, true≢false, slice_get, TransferState, joined}
-use Rattle.tftp_promises.proofs.Common.{ClientOf, is_sender, client_at, same_Some, open_view, Spells, moved_in}
-use Rattle.tftp_promises.proofs.Common.{WirePacket, EndView, not, requests_at, Ok, is_client, message, all_of, said}
-use Rattle.tftp_promises.proofs.Common.{client_end, WireRequest, ClientOpens, requested, HasOpened, To_read, at}
-use Rattle.tftp_promises.proofs.Common.{ArePortsFresh, Read, To_write, request_of, ServesClient, ProgramEnd, IsEnd}
-use Rattle.tftp_promises.proofs.Common.{Attests, path_of_name, Write, Machine, spells_own, Party, transfer_end}
-use Rattle.tftp_promises.proofs.Common.{one_meaning, Request, Matches, Shows, request_packet, own_client, ◌≢◌, Holds}
-use Rattle.tftp_promises.proofs.Common.{Elsewhere, start, run}
+use Rattle.tftp_promises.proofs.Common.{ClientOf, is_sender, client_at, open_view, Spells, moved_in, WirePacket}
+use Rattle.tftp_promises.proofs.Common.{EndView, not, requests_at, Ok, is_client, message, all_of, said, client_end}
+use Rattle.tftp_promises.proofs.Common.{WireRequest, ClientOpens, requested, HasOpened, To_read, at, ArePortsFresh}
+use Rattle.tftp_promises.proofs.Common.{Read, To_write, request_of, ServesClient, ProgramEnd, IsEnd, Attests}
+use Rattle.tftp_promises.proofs.Common.{path_of_name, Write, Machine, Party, transfer_end, one_meaning, Request}
+use Rattle.tftp_promises.proofs.Common.{Matches, Shows, request_packet, own_client, ◌≢◌, Holds, Elsewhere, start, run}
+use Rattle.tftp_promises.proofs.Common.{record_of}
 use Rattle.tftp_rules.specs.Facts.{IsServing}
 use Rattle.tftp_rules.specs.EndShown.{IsThere}
 use Rattle.tftp_rules.proofs.Runs.{Holds-start, Holds-run}
@@ -19,7 +21,7 @@ use Rattle.tftp_promises.specs.AnyFiles.{peer_of}
 use Rattle.tftp_promises.specs.Programs.{name_of}
 use Rattle.tftp_promises.proofs.Invariant.{ClientKept, IsKept, TransferKept, client_kept}
 use Rattle.tftp_promises.proofs.KeptAsks.{says_request}
-use Rattle.tftp_promises.proofs.KeptViews.{views_end, view_there}
+use Rattle.tftp_promises.proofs.KeptViews.{view_there}
 use Rattle.tftp_promises.proofs.Places.{clients_there}
 
 has_bytes : (write : Bool) (request : WireRequest) (bytes : List ℕ) → Spells (requested write request) bytes →
@@ -64,9 +66,7 @@ module _ {G K : Type 0} {inputs : SourceMeaning G} {outputs : SinkMeaning K} {to
 
   pub asks_so : (opens : ClientOpens inputs outputs to first file) →
       Spells (requested (writes opens) (wire_of opens)) first.position.last_sent
-  asks_so (To_read opens) =
-      let packet = Read (request_of opens.name opens.mode opens.asked) in
-      subst (λ (e : EndState). Spells packet e.position.last_sent) (sym opens.is) (spells_own packet opens.may.valid)
+  asks_so (To_read opens) = search std_rules
   asks_so (To_write opens) = search rules
 
 -- the end that serves a client answers its request
@@ -95,12 +95,7 @@ module _ {S F D G K : Type 0} {stores : StoreMeaning S D} {sources : SourceMeani
 
   pub one_there : ArePortsFresh programs → (x y : ProgramEnd) → IsEnd programs x → IsEnd programs y →
       x.address ≡ y.address → x ≡ y
-  one_there fresh x y (inl c) (inl d) same =
-      let k : c.0 ≡ d.0 =
-      fresh.clients c.0 d.0 c.1 d.1 c.2 d.2
-      (sym (ap (λ (e : ProgramEnd). e.address) c.3) ∙ (same ∙ ap (λ (e : ProgramEnd). e.address) d.3)) in
-      let client : c.1 ≡ d.1 = same_Some c.1 d.1 (sym c.2 ∙ (ap (slice_get programs.clients) k ∙ d.2)) in
-      c.3 ∙ (ap (client_end programs) client ∙ sym d.3)
+  one_there fresh x y (inl c) (inl d) same = grind (arith, common_steps)
   one_there fresh x y (inl c) (inr d) same =
       absurd (client_alone c.0 c.1 d.0 d.1 d.2 c.2 d.3
       (sym (ap (λ (e : ProgramEnd). e.address) c.3) ∙ (same ∙ ap (λ (e : ProgramEnd). e.address) d.4)))
@@ -133,9 +128,7 @@ module _ {S F D G K : Type 0} {stores : StoreMeaning S D} {sources : SourceMeani
     x = client_kept kept k client found
 
     pub client_matches : Matches (open_view x.end) (m.party (there client))
-    client_matches =
-        subst (λ (a : Endpoint). Matches (open_view x.end) (m.party a)) x.address
-        (shows.ends x.viewed.index (open_view x.end) x.viewed.viewed)
+    client_matches = rw (← x.address) (shows.ends x.viewed.index (open_view x.end) x.viewed.viewed)
 
     -- its request, as the machine knows it
     pub asks_as : (write : Bool) (request : WireRequest) (bytes : List ℕ) → Spells (requested write request) bytes →
@@ -149,8 +142,7 @@ module _ {S F D G K : Type 0} {stores : StoreMeaning S D} {sources : SourceMeani
 
     pub own_asks : Attests (m.party (there client)) (requests_at programs)
         (Request (writes client.opens) (wire_of client.opens))
-    own_asks =
-        asks_as (writes client.opens) (wire_of client.opens) client.first.position.last_sent (asks_so client.opens) x.asks
+    own_asks = asks_as _ _ _ (asks_so client.opens) x.asks
 
   -- ---- the peer of a client
   module _ (k : ℕ) (client : Client) (p : Endpoint) (found : slice_get programs.clients k ≡ Some client)
@@ -165,7 +157,7 @@ module _ {S F D G K : Type 0} {stores : StoreMeaning S D} {sources : SourceMeani
     serving =
         let matches = client_matches k client found in
         ((holds.ends (there client) matches.is_open).serving (matches.client ∙ c.side) p (matches.peer ∙
-        ((views_end c.end (there client) client.last.end c.address c.state).peer ∙ peer))).1
+        (ap (λ (e : EndState). (record_of e).peer) c.state ∙ peer))).1
 
     module _ (port : ℕ) (transfer : TransferState F D) (opened : HasOpened programs port transfer p) where
       y : TransferKept pad kept.views kept.messages (all_of programs) port transfer p
@@ -187,13 +179,12 @@ module _ {S F D G K : Type 0} {stores : StoreMeaning S D} {sources : SourceMeani
       its_request =
           let says = shows.asked y.viewed.index (open_view y.end) y.viewed.viewed (inr (y.side, some_bytes)) in
           let same : answered_by (m.party y.end.address) ≡ requested (writes client.opens) (wire_of client.opens) =
-          ap (λ (a : Endpoint). answered_by (m.party a)) y.address ∙ answers_it (there client) to (m.party (there
-          client)) (m.party p) (writes client.opens) (wire_of client.opens) serving (own_asks k client found) in
+          search (std_rules, answers_it, serving, own_asks) in
           search rules
 
       its_peer : peer_of (transfer_end programs transfer p) ≡ Some (there client)
       its_peer =
-          sym (views_end y.end p transfer.end y.address y.state).peer ∙ (sym its_match.peer ∙ serving.peer)
+          ap (λ (e : EndState). (record_of e).peer) (sym y.state) ∙ (sym its_match.peer ∙ serving.peer)
 
       -- one of the two sends
       its_side : is_sender transfer.end.role.side ≡ not (is_sender client.last.end.role.side)
@@ -203,8 +194,7 @@ module _ {S F D G K : Type 0} {stores : StoreMeaning S D} {sources : SourceMeani
 
       its_path : path_of_name (name_of client.opens) ≡ Ok transfer.path
       its_path =
-          let name : name_of client.opens ≡ y.named.request.name =
-          sym (name_is client.opens) ∙ one_name _ _ _ _ _ its_request y.named.spells in
+          let name = sym (name_is client.opens) ∙ one_name _ _ _ _ _ its_request y.named.spells in
           ap path_of_name name ∙ y.named.path
 
       serves : ServesClient programs p client
@@ -229,8 +219,7 @@ module _ {S F D G K : Type 0} {stores : StoreMeaning S D} {sources : SourceMeani
         elim (kept.only view (at_peer.0, at_peer.2)) [
           | inl of ↦
               let z = client_kept kept of.k of.client of.found in
-              let one : view ≡ open_view z.end =
-              view_there kept.shown z.viewed (at_peer.0, at_peer.2) (of.address ∙ sym z.address) in
+              let one : view ≡ open_view z.end = search std_rules in
               absurd (true≢false (sym z.side ∙ (ap (λ (v : EndView). v.client) (sym one) ∙ (sym there_matches.client ∙
               serving.client))))
           | inr of ↦

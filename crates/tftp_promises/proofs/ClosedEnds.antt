@@ -1,4 +1,5 @@
 -- An end that has a peer keeps it, and answers a datagram to its sender; at a timeout it sends its last datagram again.
+use Rattle.std.proofs.Common.{rules as std_rules}
 use Rattle.tftp_promises.proofs.Common.{List, ℕ, ◌≡◌, rules, sym, Endpoint, refl, [], SourceMeaning, Some, subst, inl}
 use Rattle.tftp_promises.proofs.Common.{StoreMeaning, ◌∷◌, SinkMeaning, false, true, None, ◌++◌, Programs, Bool}
 use Rattle.tftp_promises.proofs.Common.{EndState, ◌⊎◌, Contains, Files, Option, true≢false, ◌≢◌, length, outcome_of}
@@ -107,8 +108,7 @@ module _ {S K : Type 0} (sources : SourceMeaning S) (sinks : SinkMeaning K) (fro
       (files' : Files S K) → Acts sources sinks (datagram_action e from bytes decoded) from bytes e files turn files' →
       (peer : Endpoint) → peer_of e.position.phase ≡ Some peer → StaysBy from e turn
   datagram_stays bytes decoded files turn files' acts peer is =
-      acts_stay (datagram_action e from bytes decoded) bytes files turn files' acts
-      (action_keeps e from bytes decoded peer is)
+      acts_stay _ _ _ _ _ acts (action_keeps e from bytes decoded _ is)
 
 module _ (e : EndState) where
   abbrev P : Response → Type 0
@@ -160,9 +160,7 @@ module _ (network : Network) (first : List Rule) (views : List EndView) (message
         Goes network first views messages k x (response_turn WrongPeer from x.state) x
     answers_wrong_peer kept from = record {
       said_now = message x.address from Error ∷ [];
-      shown =
-          still_shown (messages ++ message x.address from Error ∷ [])
-          (says_error network first views messages s.shown x.address from);
+      shown = search (std_rules, still_shown, message, says_error);
       replies = error_says UnknownTransferId x.address from;
       kept = kept;
       side = refl;

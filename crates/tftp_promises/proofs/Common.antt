@@ -139,7 +139,6 @@ pub use Rattle.tftp_client.specs.Runs.{begun}
 pub use Rattle.tftp_promises.specs.Alone.{heard_with, alone}
 pub use Rattle.tftp_promises.specs.AnyFiles.{client_end, ServesClient, ProgramEnd, IsEnd, transfer_end, KeepAnyFiles}
 pub use Rattle.tftp_promises.specs.AnyFiles.{IsOurs, has_of, peer_of as peer_at}
-pub use Rattle.tftp_promises.specs.Arrived.{ViewsEnd}
 pub use Rattle.tftp_promises.specs.Blamed.{MayCloseAs, NoneIsBlamed}
 pub use Rattle.tftp_promises.specs.ClientRuns.{moved_in, Receives_one, ClientDoes, Waits_until, Goes_on, ClientRun}
 pub use Rattle.tftp_promises.specs.ClientRuns.{Starts, Times_out, File_works, Prints_line, Reads_clock, client_moves}

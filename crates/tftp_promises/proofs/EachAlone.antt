@@ -1,5 +1,6 @@
 -- Rules of the guarded machine lead to the ends of programs in an honest network, which so keep the promises of a
 -- transfer.
+use Rattle.std.proofs.Common.{rules as std_rules}
 use Rattle.tftp_promises.proofs.Common.{List, ℕ, ◌≡◌, rules, sym, Endpoint, refl, [], ◌∙◌, ap, SourceMeaning, Some}
 use Rattle.tftp_promises.proofs.Common.{subst, inl, StoreMeaning, inr, ◌∷◌, SinkMeaning, false, true, None, ◌++◌}
 use Rattle.tftp_promises.proofs.Common.{Programs, Bool, ◌⊎◌, Contains, SocketEvent, true≢false, arith, ◌≢◌, length}
@@ -134,14 +135,7 @@ in_apart own (p ∷ ports) port n c = elim (first_or_more p port ports c) [
 not_in_apart : (own ports : List ℕ) (port : ℕ) → has_port own port ≡ true → Contains (apart_from own ports) port → ⊥
 not_in_apart own [] port has c = nothing_in port c
 not_in_apart own (p ∷ ports) port has c =
-    kept (has_port own p) refl (not_in_apart own ports port has) c where
-      kept : (b : Bool) → has_port own p ≡ b → (Contains (apart_from own ports) port → ⊥)
-          → Contains (if b then apart_from own ports else p ∷ apart_from own ports) port → ⊥
-      kept true is rest c = rest c
-      kept false is rest c = elim (first_or_more p port (apart_from own ports) c) [
-        | inl same ↦ true≢false (sym has ∙ (sym (ap (has_port own) same) ∙ is))
-        | inr more ↦ rest more
-      ]
+    search (std_rules, has_port, true, false, first_or_more, true≢false, not_in_apart own ports port has)
 
 -- ---- the programs by their numbers
 -- a number is that of a server, or of a client
@@ -150,10 +144,7 @@ pub number_cases : {X Y : Type 0} (xs : List X) (ip : List ℕ) (f : Y → List 
     ⊎ ((k : ℕ) × (y : Y) × (slice_get ys k ≡ Some y) × (p ≡ length xs + k) × (at ≡ f y))
 number_cases [] ip f ys p at e = search (rules, mapped, slice_get-map)
 number_cases (x ∷ xs) ip f ys zero at e = inl (x, refl, sym (same_Some ip at e))
-number_cases (x ∷ xs) ip f ys (suc p) at e = elim (number_cases xs ip f ys p at e) [
-  | inl h ↦ inl (h.0, h.1, h.2)
-  | inr h ↦ inr (h.0, h.1, h.2, (let is = h.3 in omega (arith, is)), h.4)
-]
+number_cases (x ∷ xs) ip f ys (suc p) at e = search (std_rules, number_cases xs ip f ys p)
 
 module _ {X Y : Type 0} (ip : List ℕ) (f : Y → List ℕ) (ys : List Y) where
   server_ip : (xs : List X) (i : ℕ) (x : X) → slice_get xs i ≡ Some x →
@@ -188,9 +179,7 @@ module _ {S F D G K : Type 0} {stores : StoreMeaning S D} {sources : SourceMeani
   own_port : (j : ℕ) (c : Client) → slice_get several.clients j ≡ Some c →
       (port : ℕ) (to : Endpoint) (bytes : List ℕ) → Contains all (number_of several j, Sent port to bytes) →
       port ≡ c.port
-  own_port j c at port to bytes h =
-      sent_own c port to bytes
-      (rw (among.is_order.clients j c at) at (noted_in (number_of several j) (Sent port to bytes) all h))
+  own_port j c at port to bytes h = sent_own c _ _ _ (rw (among.is_order.clients j c at) at (noted_in _ _ _ h))
 
   abbrev both : Programs stores sources inputs outputs
   both = alone several i server client
@@ -240,13 +229,11 @@ module _ {S F D G K : Type 0} {stores : StoreMeaning S D} {sources : SourceMeani
         program = 0;
         port = port;
         is_at = (several.ip, refl, at.2 ∙ ap (λ (a : List ℕ). endpoint a port) ip);
-        sent = heard_server i m two_numbers earlier (Sent port to bytes) (rw (same) at c);
+        sent = heard_server i m two_numbers _ _ (rw (same) at c);
       })
       | inr n ↦
-          let noted =
-          rw (among.is_order.servers p x is) at (noted_in p (Sent port to bytes) all (within (p, Sent port to bytes)
-          c)) in
-          inr (rw (at.2, ip) (by_other p x is n port to bytes noted near))
+          let noted = rw (among.is_order.servers p x is) at (noted_in p _ _ (within (p, Sent port to bytes) c)) in
+          inr (rw (at.2, ip) (by_other p x is n _ _ _ noted near))
     ]
 
     source_client : (j : ℕ) (y : Client) → slice_get several.clients j ≡ Some y → p ≡ number_of several j →
@@ -255,7 +242,6 @@ module _ {S F D G K : Type 0} {stores : StoreMeaning S D} {sources : SourceMeani
         let sent : Contains earlier (number_of several j, Sent port to bytes) = rw number at c in
         elim (cases_eq j k) [
           | inl same ↦
-              let y_is : y ≡ client = same_Some y client (sym is ∙ (ap (slice_get several.clients) same ∙ found)) in
               inl (record {
                 program = 1;
                 port = port;
@@ -263,8 +249,11 @@ module _ {S F D G K : Type 0} {stores : StoreMeaning S D} {sources : SourceMeani
                 sent = heard_client i m two_numbers earlier (Sent port to bytes) (rw same at sent);
               })
           | inr n ↦
-              inr (inl (rw (at.2, ip)
-              (other_strange j y is n port (own_port j y is port to bytes (within (number_of several j, Sent port to bytes) sent)))))
+              inr (inl (rw (at.2, ip) (other_strange j y is n port (own_port j y is port to bytes (within (
+                number_of
+                    several j,
+                Sent port to bytes,
+              ) sent)))))
         ]
 
     source : Comes earlier from to bytes

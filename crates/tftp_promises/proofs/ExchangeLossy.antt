@@ -4,14 +4,15 @@ use Rattle.tftp_promises.proofs.Common.{Programs, Bool, EndState, arith, ◌≢�
 use Rattle.tftp_promises.proofs.Common.{AreJoined, events_of, TakesOwn, acts_in, HasOpened, Took, acts_at, Said}
 use Rattle.tftp_promises.proofs.Common.{ServesClient, IsHonest, ips, memory_source, WasHeld, OneAct, reader}
 use Rattle.tftp_promises.proofs.Common.{memory_meaning, memory_sink, read_port, client_ip, AreBounded}
-use Rattle.std.proofs.Common.{reverse}
+use Rattle.std.proofs.Common.{reverse, rules as std_rules}
 use Rattle.std.specs.Prelude.{get_or}
 use Rattle.tftp_lives.specs.Outlasting.{ArriveInTime, AnswersPromptly, acts_of, timeouts}
 use Rattle.tftp_lives.proofs.OneOrder.{timeouts_append}
 use Rattle.tftp_promises.specs.Witness.{server_ip, SomeOutlastLoss, exchange, lossy_acts}
 use Rattle.tftp_promises.proofs.ExchangeReader.{read_spelled, accepts_does, dallying, reading, stored, stores_does}
 use Rattle.tftp_promises.proofs.ExchangeReader.{times_does, waits_does}
-use Rattle.tftp_promises.proofs.ExchangeServer.{asks_to_read, completes_read, handles, opens_read, sends_block, server}
+use Rattle.tftp_loop.proofs.WitnessPort.{handles}
+use Rattle.tftp_promises.proofs.ExchangeServer.{asks_to_read, completes_read, opens_read, sends_block, server}
 use Rattle.tftp_promises.proofs.ExchangeServer.{serves as serves_reader, read_by, reading_2, s4}
 use Rattle.tftp_promises.proofs.OthersTaken.{takes_none}
 use Rattle.tftp_promises.proofs.TwoAlone.{comes_from, each, fresh_of_two, honest_if, two_alone}
@@ -103,16 +104,8 @@ bounded : AreBounded programs reading read_port serves was lossy_acts 1 1
 bounded = record {
   client_acts = client_did;
   server_acts = server_did;
-  bounded = record {
-    to_y = arrive true false reader read_port (read_by reading_2 []).end;
-    to_x = arrive false true read_port reader dallying;
-    x_handles = search rules;
-    y_handles = search rules;
-    x_prompt = promptly true read_port;
-    y_prompt = promptly false reader;
-    x_retries = omega arith;
-    y_retries = omega arith;
-  };
+  bounded =
+      search (std_rules, arrive, true, false, reader, read_port, read_by, reading_2, dallying, promptly);
 }
 
 pub some_outlast : SomeOutlastLoss

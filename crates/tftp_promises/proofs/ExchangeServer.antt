@@ -1,24 +1,21 @@
 -- The states of the server of the exchange: its file, its ends, its transfer and its timer.
+use Rattle.std.proofs.Common.{rules as std_rules}
 use Rattle.tftp_promises.proofs.Common.{List, ℕ, ◌≡◌, rules, sym, refl, [], Some, inl, ◌∷◌, false, true, None, EndState}
-use Rattle.tftp_promises.proofs.Common.{Files, true≢false, arith, LoopState, length, TransferState, LoopStep, Sent}
-use Rattle.tftp_promises.proofs.Common.{Received, at, Run, Turn, Source, Then, Start, ServerState, ◌≤◌, after_turn, ◌<◌}
-use Rattle.tftp_promises.proofs.Common.{Ok, A_transfer, IsBlockSize, with_next, Ack, answered, PortState, left_by}
-use Rattle.tftp_promises.proofs.Common.{Config, Terms, Read, request_of, At_port, A_datagram, serving_read, AreSame}
-use Rattle.tftp_promises.proofs.Common.{response_turn, files_in, ⊤, is_closed, oack_bytes, at_start}
-use Rattle.tftp_promises.proofs.Common.{LoopConfig, StepIn, agreed_terms, memory_source, ServerProgram, AsksToRead}
-use Rattle.tftp_promises.proofs.Common.{Timer, slice_set, ack_bytes, reader, memory_meaning, read_file, blocks_of_8}
-use Rattle.tftp_promises.proofs.Common.{Complete, filled_turn, Request_received, Constant, agreed, read_request}
-use Rattle.tftp_promises.proofs.Common.{KeepsStore, read_name, requests, slice_index_or, Octet}
-use Rattle.tftp_loop.specs.Steps.{timer_after, most_in_round}
+use Rattle.tftp_promises.proofs.Common.{true≢false, arith, LoopState, length, TransferState, LoopStep, Sent, Received}
+use Rattle.tftp_promises.proofs.Common.{Run, Turn, Source, Then, Start, ServerState, after_turn, Ok, A_transfer}
+use Rattle.tftp_promises.proofs.Common.{IsBlockSize, Ack, left_by, Config, Terms, Read, request_of, serving_read}
+use Rattle.tftp_promises.proofs.Common.{response_turn, oack_bytes, at_start, LoopConfig, StepIn, agreed_terms}
+use Rattle.tftp_promises.proofs.Common.{memory_source, ServerProgram, AsksToRead, Timer, ack_bytes, reader}
+use Rattle.tftp_promises.proofs.Common.{memory_meaning, read_file, blocks_of_8, Complete, filled_turn, Request_received}
+use Rattle.tftp_promises.proofs.Common.{Constant, agreed, read_request, read_name, requests, Octet}
 use Rattle.tftp_store.specs.Store.{Stored, Drafted}
 use Rattle.tftp_sockets.specs.Watch.{last_moment}
 use Rattle.tftp_negotiate.specs.Answer.{answered_option}
 use Rattle.tftp_negotiate.specs.Negotiation.{occurrences_of}
 use Rattle.tftp_negotiate.specs.Options.{name_of}
-use Rattle.tftp_ends.specs.declared.outgoing.Outgoing.{Outgoing}
 use Rattle.tftp_ends.specs.declared.outgoing.Outgoing.TheVariants.{Nothing, LastSent}
-use Rattle.tftp_ends.specs.Step.{lent, reply_bytes, reported}
 use Rattle.tftp_loop.specs.Steps.LoopStep.{Request_answered}
+use Rattle.tftp_loop.proofs.WitnessPort.{after_it, handles}
 use Rattle.tftp_promises.proofs.ExchangeReader.{ack_spelled, read_8, read_spelled}
 
 abbrev pub Held : Type 0
@@ -114,78 +111,11 @@ s2 = record s1 {
 abbrev Step : Loop → Loop → Type 0
 Step old new = LoopStep memory_meaning memory_source old new
 
--- the transfer handles a datagram of the reader by this turn, with this file after it
-module _ (old : Loop) (timer : Timer) (transfer : Held) (bytes : List ℕ) (turn : Turn)
-    (files : Files (List ℕ) Drafted) where
-  abbrev handled : Held
-  handled = record transfer { end = after_turn transfer.end turn; files = files }
-
-  abbrev port_after : PortState Stored (List ℕ) Drafted
-  port_after = record {
-    server = record old.server { held = with_next timer.port handled old.server.held };
-    timer = timer_after old.now (reported transfer.end turn).progress timer;
-    events = answered timer.port turn.reply (Received timer.port reader bytes ∷ old.events);
-  }
-
-  abbrev pub after_it : Loop
-  after_it = record old {
-    server = port_after.server;
-    timers = slice_set old.timers 0 port_after.timer;
-    events = port_after.events;
-  }
-
-  unfoldable pub handles : (outgoing : Outgoing) → old.now ≤ timer.age_limit → timer.received < most_in_round → 0 < length old.timers →
-      timer ≡ slice_index_or old.timers 0 timer → at timer.port old.server.held ≡ Some transfer →
-      is_closed transfer ≡ false → StepIn memory_meaning memory_source reader bytes transfer.end
-      (files_in old.server.store transfer.path old.server.config.overwrite transfer.files) turn
-      (files_in old.server.store transfer.path old.server.config.overwrite files) →
-      lent outgoing (after_turn transfer.end turn) ≡ reply_bytes turn.reply →
-      KeepsStore transfer.files old.server.store old.server.store →
-      AreSame (λ (a b : List ℕ). ⊤) (λ (a b : Drafted). ⊤) transfer.files files → Step old after_it
-  handles outgoing in_time few within is_timer found still steps lends stays kind = At_port (record {
-    index = 0;
-    timer = timer;
-    within = within;
-    is_timer = is_timer;
-    next = port_after;
-    does = A_datagram (record {
-      few = few;
-      in_time = in_time;
-      from = reader;
-      bytes = bytes;
-      step = reported transfer.end turn;
-      handles = record {
-        outgoing = outgoing;
-        takes = record {
-          transfer = transfer;
-          next = handled;
-          found = found;
-          still = still;
-          takes = record {
-            turn = turn;
-            steps = steps;
-            carries = record { state = refl; goes = refl; bytes = lends };
-            reports = refl;
-            stays = stays;
-            kind = kind;
-            path = refl;
-            request = refl;
-          };
-          held = refl;
-        };
-        config = refl;
-        events = refl;
-      };
-      timer = refl;
-    });
-    is = refl;
-  })
-
 abbrev pub s3 : Loop
-s3 = after_it s2 (timed 0) (read_by reading_0 read_file) (ack_bytes 0) sends (Source [])
+s3 = after_it s2 0 (timed 0) (read_by reading_0 read_file) reader (ack_bytes 0) sends LastSent store (Source [])
 
 abbrev pub s4 : Loop
-s4 = after_it s3 (timed 1) (read_by reading_1 []) (ack_bytes 1) completes (Source [])
+s4 = after_it s3 0 (timed 1) (read_by reading_1 []) reader (ack_bytes 1) completes Nothing store (Source [])
 
 unfoldable pub asks_to_read : Step s0 s1
 asks_to_read = Request_received
@@ -240,13 +170,7 @@ reads_block = record {
   acts = record {
     answer = Ok 1;
     piece = read_file;
-    reads =
-        record {
-          fills = record { count = refl; given = refl; rest = refl };
-          read = λ e. absurd (cc);
-          fails = λ f. absurd f;
-          memory = λ e. absurd (cc);
-        };
+    reads = search std_rules;
     gives = tt;
     answers = refl;
   };
@@ -255,8 +179,8 @@ reads_block = record {
 
 unfoldable pub sends_block : Step s2 s3
 sends_block =
-    handles s2 (timed 0) (read_by reading_0 read_file) (ack_bytes 0) sends (Source []) LastSent (omega arith)
-    (omega arith) (omega arith) refl refl refl reads_block refl refl tt
+    handles s2 0 (timed 0) (read_by reading_0 read_file) reader (ack_bytes 0) sends LastSent store (Source [])
+    (omega arith) (omega arith) (omega arith) refl refl refl reads_block refl refl tt
 
 -- it is acknowledged
 pub is_acknowledged : StepIn memory_meaning memory_source reader (ack_bytes 1) reading_1 (Source []) completes (Source [])
@@ -264,7 +188,7 @@ is_acknowledged = record { decoded = Some (Ack 1); says = ack_spelled 1 (omega a
 
 unfoldable pub completes_read : Step s3 s4
 completes_read =
-    handles s3 (timed 1) (read_by reading_1 []) (ack_bytes 1) completes (Source []) Nothing (omega arith) (omega arith)
+    handles s3 0 (timed 1) (read_by reading_1 []) reader (ack_bytes 1) completes Nothing store (Source []) (omega arith) (omega arith)
     (omega arith) refl refl refl is_acknowledged refl refl tt
 
 pub agreeable : IsBlockSize config.limits.max_block

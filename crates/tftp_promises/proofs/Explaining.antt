@@ -61,11 +61,11 @@ module _ {S F D G K : Type 0} (stores : StoreMeaning S D) (sources : SourceMeani
       | inr other ↦ elim other [
         | inl on ↦ Goes_on on.0
         | inr gave ↦
-            Of_request none (record {
-              unheard = gave_up_unheard stores sources inputs outputs programs client none gave.0 gave.1;
-              settled =
-                  requests_settled stores sources _ programs.server (client_at client) client.last.end.position.last_sent;
-            })
+            Of_request none (search (
+              gave_up_unheard stores sources inputs outputs programs client none gave.0 gave.1,
+              requests_settled stores sources _ programs.server (client_at client)
+                  client.last.end.position.last_sent,
+            ))
       ]
     ]
 
@@ -74,5 +74,4 @@ module _ {S F D G K : Type 0} (stores : StoreMeaning S D) (sources : SourceMeani
     by_peer (Some p) peer = with_peer p peer
 
   pub programs_explained : ProgramsAreExplained stores sources inputs outputs
-  programs_explained programs order joined k client found incomplete =
-      by_peer programs order joined k client found incomplete (peer_of (client_end programs client)) refl
+  programs_explained programs order joined k client found incomplete = by_peer _ _ joined k _ found incomplete _ refl

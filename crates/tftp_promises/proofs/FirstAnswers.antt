@@ -1,5 +1,6 @@
 -- A client that has no peer refuses its server's first answer only if its file is too long for it: the server sent that
 -- answer, and an OACK is for the client's request. For the law a_client_ends_for_a_reason.
+use Rattle.std.proofs.Common.{rules as std_rules}
 use Rattle.tftp_promises.proofs.Common.{List, ℕ, ◌≡◌, rules, sym, Endpoint, refl, [], ◌∙◌, ap, SourceMeaning, Some}
 use Rattle.tftp_promises.proofs.Common.{subst, inl, StoreMeaning, inr, ◌∷◌, SinkMeaning, false, true, None, Programs}
 use Rattle.tftp_promises.proofs.Common.{Bool, EndState, Contains, arith, ◌≢◌, length, slice_get, TransferState, Sent}
@@ -13,10 +14,10 @@ use Rattle.tftp_promises.proofs.Common.{Machine, spells_own, Party, DEFAULT_BLOC
 use Rattle.tftp_promises.proofs.Common.{one_meaning, Request, has_opcode, IsRefusal, nat_le, At_client, Matches}
 use Rattle.tftp_promises.proofs.Common.{own_client, peer_at, Host, start, IsValid, same_ips, block, ◌<◌, Ok, ◌*◌, ◌^◌}
 use Rattle.tftp_promises.proofs.Common.{true≢false, ◌⊎◌, MAX_BLOCK, Mode, agreement, answer, Files, outcome_of}
-use Rattle.tftp_promises.proofs.Common.{request_of, serving_read, serving_write, writer_action, accept_action}
-use Rattle.tftp_promises.proofs.Common.{reader_action, begin_with_action, begun, ClientOpens, To_read, To_write}
-use Rattle.tftp_promises.proofs.Common.{OpensToWrite, OpensToRead}
-use Rattle.std.proofs.lemmas.Bool.{le-leb}
+use Rattle.tftp_promises.proofs.Common.{serving_read, serving_write, writer_action, accept_action, reader_action}
+use Rattle.tftp_promises.proofs.Common.{begin_with_action, begun, ClientOpens, To_read, To_write, OpensToWrite}
+use Rattle.tftp_promises.proofs.Common.{OpensToRead}
+use Rattle.std.proofs.lemmas.Bool.{and_from, le-leb}
 use Rattle.tftp_rules.specs.Facts.{home}
 use Rattle.tftp_rules.proofs.BlamelessActions.{decoded_is}
 use Rattle.tftp_rules.proofs.Blocks.{length-block}
@@ -37,7 +38,6 @@ use Rattle.tftp_promises.proofs.KeptServes.{server_steps_keep}
 use Rattle.tftp_promises.proofs.OacksSent.{IsOpenedBy, oack_opens}
 use Rattle.tftp_promises.proofs.Requested.{Begins_to_send, Begins_to_store, IsAsked, OpensToSend, OpensToStore}
 use Rattle.tftp_promises.proofs.Requested.{PortAnswers, Says_error, Silent, port_answers}
-use Rattle.tftp_rules.proofs.SaidLemmas.{says_spelled}
 use Rattle.tftp_negotiate.specs.declared.known.Kind.{Kind}
 use Rattle.tftp_negotiate.specs.declared.known.Kind.TheVariants as kinds
 use Rattle.tftp_promises.specs.TooLong.{HasTooManyBlocks, IsLongerThanAccepted, IsTooLong}
@@ -49,9 +49,6 @@ use Rattle.tftp_promises.proofs.SeenLives.{tells_took}
 -- the sides of a host
 no_host : {P : Type 0} {h : Host} → h ≡ At_client → h ≡ At_server → P
 no_host e f = absurd (let z : At_client ≡ At_server = sym e ∙ f in cc)
-
-both_true : (a b : Bool) → a ≡ true → b ≡ true → (a && b) ≡ true
-both_true a b e f = search rules
 
 -- what an end of the server sent first, if it is an OACK
 read_oack : (agreed : List Known) (peer : Endpoint) (mode : Mode) (count retries : ℕ) (piece bytes : List ℕ) →
@@ -71,8 +68,7 @@ same_answer kind measured e f g h = search rules
 
 side_is : {G K : Type 0} {inputs : SourceMeaning G} {outputs : SinkMeaning K} {to : Endpoint} {first : EndState}
     {file : Files G K} (opens : ClientOpens inputs outputs to first file) → is_sender first.role.side ≡ writes opens
-side_is (To_read opens) = ap (λ (e : EndState). is_sender e.role.side) opens.is
-side_is (To_write opens) = ap (λ (e : EndState). is_sender e.role.side) opens.is
+side_is opens = search std_rules
 
 module _ {S F D G K : Type 0} {stores : StoreMeaning S D} {sources : SourceMeaning F} {inputs : SourceMeaning G}
     {outputs : SinkMeaning K} {programs : Programs stores sources inputs outputs} {order : List Noted}
@@ -137,12 +133,8 @@ module _ {S F D G K : Type 0} {stores : StoreMeaning S D} {sources : SourceMeani
     closes_so : (opens : Opens) → client.opens ≡ opens → (p : Packet) → Spells p r.bytes →
         ClosesBy o (waiting_as o client.first.role (asked_in opens) (limit_in opens) r.from (Some p))
     closes_so opens is p spells =
-        let closes =
-        of_packet o r.end.role (asked_in client.opens) (limit_in client.opens) (requests_at programs) r.from r.bytes p
-        r.decoded (decoded_is r.bytes p r.decoded spells r.says) closing in
-        subst (λ (x : Opens). ClosesBy o (waiting_as o client.first.role (asked_in x) (limit_in x) r.from (Some p))) is
-        (subst (λ (role : Role).
-        ClosesBy o (waiting_as o role (asked_in client.opens) (limit_in client.opens) r.from (Some p))) r.role closes)
+        let closes = of_packet o _ _ _ _ _ _ p _ (decoded_is r.bytes p r.decoded spells r.says) closing in
+        search std_rules
 
     reads_so : (opens : OpensToRead inputs outputs (requests_at programs) client.first client.file) →
         client.opens ≡ To_read opens → (p : Packet) → Spells p r.bytes →
@@ -200,13 +192,7 @@ module _ {S F D G K : Type 0} {stores : StoreMeaning S D} {sources : SourceMeani
       | inl sent ↦ elim (kept.sent r.from a r.bytes sent.before) [
         | inr strange ↦ absurd (stranger_no_client programs a k client found refl strange)
         | inl in_them ↦
-            record {
-              packet = in_them.0;
-              spells = in_them.1;
-              truth = true_in programs kept r.from a (said in_them.0) in_them.2 own;
-              inside = in_them.2;
-              by = sent.by;
-            }
+            search (true_in programs kept r.from a (said in_them.0) in_them.2 own)
       ]
     ]
 
@@ -256,7 +242,7 @@ module _ {S F D G K : Type 0} {stores : StoreMeaning S D} {sources : SourceMeani
         ap length t.bytes ∙ ap (λ (j : ℕ). length (block (ends r.from).text (ends r.from).size j)) one in
         let l = length-block (ends r.from).text 0 (ends r.from).size in
         let short : length piece ≤ DEFAULT_BLOCK = omega (arith, same, l, size_is) in
-        both_true (n == 1) (nat_le (length piece) DEFAULT_BLOCK) (eq-eqb n 1 (omega (arith, one)))
+        and_from (n == 1) (nat_le (length piece) DEFAULT_BLOCK) (eq-eqb n 1 (omega (arith, one)))
         (le-leb (length piece) DEFAULT_BLOCK short)
 
     -- an ACK is the first
@@ -285,9 +271,7 @@ module _ {S F D G K : Type 0} {stores : StoreMeaning S D} {sources : SourceMeani
         Attests (ends r.from) a (said (Oack options)) → IsOfOne programs r.from a r.bytes → Opening
     opened_it options spells t by =
         let sent = server_sent t.is_open t.peer by in
-        oack_opens stores sources programs.server.run programs.server.idle programs.server.empty
-        programs.server.max_block programs.server.noted programs.server.is_noted sent.0 a r.bytes sent.1
-        (oack_is options spells)
+        search (std_rules, oack_opens, oack_is)
 
     module _ (h : Opening) where
       request_came : Has (Received programs.port h.answers.from h.answers.bytes) programs.server.noted
@@ -297,9 +281,7 @@ module _ {S F D G K : Type 0} {stores : StoreMeaning S D} {sources : SourceMeani
       module _ {write : Bool} {path : List ℕ} {mode : Mode} {options : List RawOption}
           (is : IsAsked h.answers.steps.decoded h.answers.steps.repeated write path mode options) where
         spelled : Spells (requested write is.request) h.answers.bytes
-        spelled =
-            says_spelled h.answers.bytes h.answers.steps.decoded h.answers.steps.says (requested write is.request)
-            is.packet
+        spelled = search std_rules
 
         no_error_request : (w : Bool) (q : WireRequest) → Spells (requested w q) h.answers.bytes →
             IsError h.answers.bytes → ⊥
@@ -307,8 +289,7 @@ module _ {S F D G K : Type 0} {stores : StoreMeaning S D} {sources : SourceMeani
 
         request_there : IsThere kept.messages a (requests_at programs) h.answers.bytes
         request_there =
-            rw (← h.from) (elim (came_to_server programs order joins.is_order joins.honest h.answers.from h.answers.bytes
-            request_came) [
+            rw (← h.from) (elim (came_to_server _ _ joins.is_order joins.honest _ _ request_came) [
               | inr may ↦ elim may [
                 | inl strange ↦ absurd (stranger_no_client programs h.answers.from k client found h.from strange)
                 | inr error ↦ absurd (no_error_request write is.request spelled error)
@@ -316,9 +297,8 @@ module _ {S F D G K : Type 0} {stores : StoreMeaning S D} {sources : SourceMeani
               | inl sent ↦ elim (kept.sent h.answers.from (requests_at programs) h.answers.bytes sent.before) [
                 | inl in_them ↦ in_them
                 | inr strange ↦
-                    absurd (joins.fresh.others programs.port
-                    (Contains-append_left (programs.port ∷ []) (our_ports programs programs.server.run) programs.port
-                    (Contains-push [] programs.port)) (strange.server refl))
+                    absurd (joins.fresh.others programs.port (Contains-append_left (programs.port ∷ []) (our_ports
+                    programs programs.server.run) programs.port (Contains-push [] programs.port)) (strange.server refl))
               ]
             ])
 
@@ -360,22 +340,19 @@ module _ {S F D G K : Type 0} {stores : StoreMeaning S D} {sources : SourceMeani
             OpensToSend stores sources h.old.server h.answers.from h.answers.bytes path mode asked h.answers.steps.came →
             Why
         read_sent opens is_read {path} {mode} is s =
-            let request_is : is.request ≡ request_of opens.name opens.mode opens.asked =
-            same_request is ∙ ap wire_of is_read in
-            let mode_is : mode ≡ opens.mode = sym is.same_mode ∙ ap (λ (q : WireRequest). q.mode) request_is in
+            let request_is = same_request is ∙ ap wire_of is_read in
+            let mode_is = sym is.same_mode ∙ ap (λ q. q.mode) request_is in
             let answered =
-            same_answer kinds.Read s.measured (sym is.same_options ∙ ap (λ (q : WireRequest). q.options) request_is) mode_is h.config s.answers in
+            same_answer _ _ (sym is.same_options ∙ ap (λ q. q.options) request_is) mode_is h.config s.answers in
             let few = s.fits in
             let small = s.granted.small in
             let word : s.measured < 2 ^ 64 = omega (arith, few, small) in
             let number : s.measured < 65535 * MAX_BLOCK = omega (arith, few, small) in
-            let closes : ClosesBy o (accept_action r.from
-            (agreement opens.asked kinds.Read opens.mode (agreed_options s.agreed) opens.limit)) =
-            rw (same_options s.agreed s.granted.oack (read_oack s.agreed h.answers.from mode s.measured
-            h.old.server.config.retries s.piece r.bytes (same_end _ _ s.is) (oack_is options oack)))
-            at (reads_so opens is_read (Oack options) oack) in
-            elim (read_taken opens.asked opens.mode s.measured opens.limit programs.server.start.server.config.limits
-            s.agreed opens.may.options word programs.server.max_block answered) [
+            let closes : ClosesBy o (accept_action r.from (agreement opens.asked kinds.Read opens.mode (agreed_options
+            s.agreed) opens.limit)) =
+            rw (same_options _ s.granted.oack (read_oack _ _ _ _ _ _ _ (same_end _ _ s.is) (oack_is _ oack))) at
+            (reads_so _ is_read _ oack) in
+            elim (read_taken _ _ _ opens.limit _ _ opens.may.options word programs.server.max_block answered) [
               | inl same ↦ absurd (rw same at closes)
               | inr longer ↦
                   let stored = rw mode_is at s.opened in (
@@ -401,21 +378,27 @@ module _ {S F D G K : Type 0} {stores : StoreMeaning S D} {sources : SourceMeani
             OpensToStore stores sources h.old.server h.answers.from h.answers.bytes path mode asked h.answers.steps.came →
             Why
         write_sent opens is_write {mode = mode} is s =
-            let request_is : is.request ≡ request_of opens.name opens.mode opens.asked =
-            same_request is ∙ ap wire_of is_write in
-            let mode_is : mode ≡ opens.mode = sym is.same_mode ∙ ap (λ (q : WireRequest). q.mode) request_is in
+            let request_is = same_request is ∙ ap wire_of is_write in
+            let mode_is = sym is.same_mode ∙ ap (λ q. q.mode) request_is in
             let answered =
-            same_answer kinds.Write 0 (sym is.same_options ∙ ap (λ (q : WireRequest). q.options) request_is) mode_is h.config s.answers in
+            same_answer _ 0 (sym is.same_options ∙ ap (λ q. q.options) request_is) mode_is h.config s.answers in
             let taken =
-            write_taken opens.asked opens.mode opens.length opens.limit programs.server.start.server.config.limits s.agreed
-            opens.may.options opens.may.fits programs.server.max_block answered in
-            let closes : ClosesBy o (begin_with_action r.from opens.length
-            (agreement opens.asked kinds.Write opens.mode (agreed_options s.agreed) opens.limit)) =
-            rw (same_options s.agreed s.granted.oack (write_oack s.agreed h.answers.from mode
-            h.old.server.config.retries r.bytes (same_end _ _ s.is) (oack_is options oack)))
-            at (writes_so opens is_write (Oack options) oack) in
-            let long = begin_with_closes o r.from opens.length _ s.agreed taken closes in
-            (long.0, inl (record { opens = opens; writes = is_write; agreed = s.agreed; answers = inr answered; many = long.1 }))
+            write_taken _ _ _ opens.limit _ _ opens.may.options opens.may.fits programs.server.max_block answered in
+            let closes : ClosesBy o (begin_with_action r.from opens.length (agreement opens.asked kinds.Write opens.mode
+            (agreed_options s.agreed) opens.limit)) =
+            rw (same_options _ s.granted.oack (write_oack _ _ _ _ _ (same_end _ _ s.is) (oack_is _ oack))) at (writes_so
+            _ is_write _ oack) in
+            let long = begin_with_closes o _ _ _ _ taken closes in (
+              long.0,
+              inl (record {
+                opens = opens;
+                writes = is_write;
+                agreed = s.agreed;
+                answers = inr answered;
+                many =
+                    long.1;
+              }),
+            )
 
         by_answer : (opens : Opens) → client.opens ≡ opens → PortAnswers stores sources h.old.server h.answers.from h.answers.bytes
             h.answers.steps.decoded h.answers.steps.repeated h.answers.steps.came → Why

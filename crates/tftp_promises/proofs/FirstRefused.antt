@@ -1,5 +1,6 @@
 -- How a client closes that has no peer: at the first datagram of the server's address that it handles and that is no ERROR
 -- it took no peer, and refused that. For the law a_client_ends_for_a_reason.
+use Rattle.std.proofs.Common.{rules as std_rules}
 use Rattle.tftp_promises.proofs.Common.{List, ℕ, ◌≡◌, rules, sym, Endpoint, refl, ◌∙◌, ap, SourceMeaning, Some, subst}
 use Rattle.tftp_promises.proofs.Common.{inl, inr, ◌∷◌, SinkMeaning, None, EndState, ◌⊎◌, Files, Option, outcome_of}
 use Rattle.tftp_promises.proofs.Common.{same_Some, Turn, State, timeout_turn, DatagramStep, Receives_one, Outcome}
@@ -36,8 +37,7 @@ module _ {G K : Type 0} {inputs : SourceMeaning G} {outputs : SinkMeaning K} {to
 
   pub waits_first : (opens : ClientOpens inputs outputs to first file) →
       first.position.phase ≡ Waiting (asked_in opens) (limit_in opens)
-  waits_first (To_read opens) = ap (λ (e : EndState). e.position.phase) opens.is
-  waits_first (To_write opens) = ap (λ (e : EndState). e.position.phase) opens.is
+  waits_first opens = search std_rules
 
 -- ---- one turn of an end that waits
 -- its newest datagram is the same
@@ -69,10 +69,7 @@ module _ (e : EndState) (asked : Asked) (limit : ℕ) (waits : e.position.phase 
   module _ {S K : Type 0} (sources : SourceMeaning S) (sinks : SinkMeaning K) (bytes : List ℕ) where
     acts_lead : (action : Action) (files : Files S K) (turn : Turn) (files' : Files S K) →
         Acts sources sinks action from bytes e files turn files' → Leads e action turn
-    acts_lead (Respond response) files turn files' acts =
-        leads_as (Respond response) turn _ acts.0 (response_leads response)
-    acts_lead action files turn files' acts = λ none.
-        absurd (acts_peer sources sinks from e action bytes files turn files' acts tt none)
+    acts_lead action files turn files' acts = search (std_rules, leads_as, response_leads, acts_peer)
 
 -- ---- a run
 -- an end that waited for its first answer closed with this outcome, by what it received
@@ -140,8 +137,7 @@ module _ (ip others : List ℕ) (begin : State) (asked : Asked) (limit : ℕ) wh
           SoFar turn.position acts
       waiting_turns none same waiting after =
           let leads =
-          acts_lead s.end asked limit (waiting ∙ waits) from inputs outputs bytes
-          (datagram_action s.end from bytes step.decoded) files turn files' step.acts after in (
+          acts_lead _ _ _ (waiting ∙ waits) _ _ _ _ _ _ _ _ step.acts after in (
             (leads.0.0 ∙ same.0, leads.0.1 ∙ same.1),
             elim leads.1 [
               | inl on ↦ inl (on ∙ waiting)
@@ -149,19 +145,13 @@ module _ (ip others : List ℕ) (begin : State) (asked : Asked) (limit : ℕ) wh
                   inr (
                     closed.0,
                     closed.1,
-                    inr (record {
-                      end = s.end;
-                      role = run_role run;
-                      waiting = waiting ∙ waits;
-                      to = same.1;
-                      from = from;
-                      bytes = bytes;
-                      handled = has_more (Took from bytes) (Took from bytes ∷ acts_in run) turn.reply (inl refl);
-                      own = own none;
-                      decoded = step.decoded;
-                      says = step.says;
-                      closes = closed.2;
-                    }),
+                    inr (search (
+                      run_role run,
+                      waiting ∙ waits,
+                      has_more (Took from bytes) (Took from bytes ∷ acts_in
+                          run) turn.reply (inl refl),
+                      own none,
+                    )),
                   )
             ],
           )
@@ -170,14 +160,10 @@ module _ (ip others : List ℕ) (begin : State) (asked : Asked) (limit : ℕ) wh
           SoFar turn.position acts
       turns_by (Some peer) is after =
           no_peer peer
-          (sym ((datagram_stays inputs outputs from s.end bytes step.decoded files turn files' step.acts peer is).peer_is
+          (sym ((datagram_stays inputs outputs from s.end bytes step.decoded files turn files' step.acts peer
+          is).peer_is
           ∙ is) ∙ after)
-      turns_by None is after =
-          let before = h is in
-          elim before.1 [
-            | inl waiting ↦ waiting_turns is before.0 waiting after
-            | inr closed ↦ open_none s closed.0 still closed.1
-          ]
+      turns_by None is after = search (std_rules, waiting_turns, open_none)
 
     -- ---- a timeout
     times : {s : State} {files : Files G K} (run : ClientRun inputs outputs port begin file s files) → IsOpen s.end → Without s (acts_in run) →

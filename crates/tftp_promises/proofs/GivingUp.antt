@@ -1,13 +1,13 @@
 -- A client that timed out was not answered by the transfer that serves it. For the law a_client_gives_up_unanswered.
-use Rattle.tftp_promises.proofs.Common.{List, ℕ, ◌≡◌, rules, sym, Endpoint, refl, ◌∙◌, ap, SourceMeaning, Some, subst}
-use Rattle.tftp_promises.proofs.Common.{inl, StoreMeaning, inr, SinkMeaning, false, None, ◌++◌, Programs, ◌⊎◌}
-use Rattle.tftp_promises.proofs.Common.{SocketEvent, Option, true≢false, arith, LoopState, slice_get, TransferState}
-use Rattle.tftp_promises.proofs.Common.{LoopStep, ClientOf, outcome_of, is_sender, client_at, at, Run, Then, Start}
-use Rattle.tftp_promises.proofs.Common.{Noted, requests_at, ◌+◌, is_complete, AreJoined, drafting_sink, append_assoc}
+use Rattle.std.proofs.Common.{rules as std_rules}
+use Rattle.tftp_promises.proofs.Common.{List, ℕ, ◌≡◌, rules, sym, Endpoint, refl, ◌∙◌, ap, SourceMeaning, Some, inl}
+use Rattle.tftp_promises.proofs.Common.{StoreMeaning, inr, SinkMeaning, false, None, ◌++◌, Programs, ◌⊎◌, SocketEvent}
+use Rattle.tftp_promises.proofs.Common.{Option, true≢false, arith, LoopState, slice_get, TransferState, LoopStep}
+use Rattle.tftp_promises.proofs.Common.{ClientOf, outcome_of, is_sender, client_at, at, Run, Then, Start, Noted}
+use Rattle.tftp_promises.proofs.Common.{requests_at, ◌+◌, is_complete, AreJoined, drafting_sink, append_assoc}
 use Rattle.tftp_promises.proofs.Common.{client_end, begun, HasClosed, HasOpened, acts_at, ServesClient, is_open}
 use Rattle.tftp_promises.proofs.Common.{Transfer_closed, Removes, WasHeld, AreNotedWhileOpen, IsSeenUnanswered}
-use Rattle.tftp_promises.proofs.Common.{canonical, record_of, joined, ClientProgram, [], ◌∷◌, Act, Said}
-use Rattle.tftp_promises.proofs.Common.{newest, HasCopies, acts_in}
+use Rattle.tftp_promises.proofs.Common.{record_of, joined, ClientProgram, [], ◌∷◌, Act, Said, newest, acts_in}
 use Rattle.tftp_lives.proofs.OpenEnds.{flipped}
 use Rattle.tftp_lives.proofs.Unanswered.{give_up_unanswered, give_up_unheard}
 use Rattle.tftp_ends.specs.declared.outcome.Outcome.TheVariants as outcomes
@@ -41,18 +41,10 @@ module _ {S F D G K : Type 0} {stores : StoreMeaning S D} {sources : SourceMeani
   was_closed Start since is port transfer a h = absurd h
   was_closed (Then {middle} run does) since is port transfer a h =
       let adds = step_adds does in
-      let all : programs.server.last.events ≡ (since ++ adds.0) ++ middle.events =
-      is
-      ∙ (ap (λ (es : List SocketEvent). since ++ es) adds.1 ∙ sym (append_assoc since adds.0 middle.events)) in
+      let all = is ∙ (ap (λ es. since ++ es) adds.1 ∙ sym (append_assoc since adds.0 middle.events)) in
       elim h [
         | inl removed ↦
-            record {
-              state = middle;
-              run = run;
-              held = removed_at does port transfer removed.0;
-              since = since ++ adds.0;
-              is_since = all;
-            }
+            search (removed_at does port transfer removed.0, since ++ adds.0)
         | inr before ↦ was_closed run (since ++ adds.0) all port transfer a before
       ]
 
@@ -67,9 +59,8 @@ module _ {S F D G K : Type 0} {stores : StoreMeaning S D} {sources : SourceMeani
   pub held_noted : (port : ℕ) (transfer : TransferState F D) (was : WasHeld programs port transfer) →
       AreNotedWhileOpen port programs.server.start.events was.state.events (is_open (Some transfer)) (acts_at port was.run)
   held_noted port transfer was =
-      subst (λ (o : Option (TransferState F D)).
-      AreNotedWhileOpen port programs.server.start.events was.state.events (is_open o) (acts_at port was.run)) was.held
-      (transfers_noted stores sources programs.server.start programs.server.empty programs.server.max_block port was.run)
+      rw (was.held) at (transfers_noted stores sources programs.server.start programs.server.empty
+      programs.server.max_block port was.run)
 
   module _ (client : ClientOf programs) (p : Endpoint) (peer : peer_of (client_end programs client) ≡ Some p)
       (out : outcome_of client.last.end.position.phase ≡ Some outcomes.TimedOut)
@@ -77,20 +68,21 @@ module _ {S F D G K : Type 0} {stores : StoreMeaning S D} {sources : SourceMeani
     gave_up : GaveUpUnanswered programs client p
     gave_up =
         let was = was_held serves.port serves.transfer p serves.opened in
-        let living = transfers_live stores sources was.run programs.server.empty programs.server.max_block
-        serves.port serves.transfer was.held in
-        record {
-          serves = serves;
-          was = was;
-          living = living;
-          unanswered =
-              give_up_unanswered inputs outputs sources (drafting_sink stores) (client_at client) p client.first
-              client.last.end _ living.first serves.transfer.end _ (client_opening client.opens)
-              (client_lives client.runs) living.begins living.life
-              (record { x_peer = peer; y_peer = serves.peer; sides = serves.other }) out incomplete;
-          client_noted = client_noted client.before client.runs;
-          server_noted = held_noted serves.port serves.transfer was;
-        }
+        let living = transfers_live stores sources was.run programs.server.empty programs.server.max_block serves.port
+        serves.transfer was.held in
+        search (
+          give_up_unanswered inputs outputs sources (drafting_sink stores) (client_at client) p client.first
+              client.last.end _ living.first serves.transfer.end _ (client_opening client.opens) (client_lives
+              client.runs) living.begins living.life (record {
+                x_peer = peer;
+                y_peer = serves.peer;
+                sides =
+                    serves.other;
+              }) out incomplete,
+          client_noted client.before client.runs,
+          held_noted serves.port
+              serves.transfer was,
+        )
 
   -- ---- what of it the traces show
   module _ (client : ClientOf programs) (p : Endpoint) (g : GaveUpUnanswered programs client p) where
@@ -100,23 +92,18 @@ module _ {S F D G K : Type 0} {stores : StoreMeaning S D} {sources : SourceMeani
         let tried = g.unanswered.tried in
         let to_peer = ap (λ (a : Endpoint). Said a client.last.end.position.last_sent) g.unanswered.to_peer in
         let since =
-        tells_since client.port client.noted _ tells tried.later p client.last.end.position.last_sent tried.earlier
-        (tried.is ∙ ap (λ (a : Act). tried.later ++ a ∷ tried.earlier) to_peer) in
+        tells_since _ _ _ tells _ p _ _ (tried.is ∙ ap (λ (a : Act). tried.later ++ a ∷ tried.earlier) to_peer) in
         let many = tried.timeouts in
         let some = since.timeouts in
         record {
           gave_up = g;
-          copies =
-              tells_copies client.port client.noted _ tells (client.last.end.role.retries + 1) p
-              client.last.end.position.last_sent
-              (subst (λ (a : Act). HasCopies (client.last.end.role.retries + 1) a (acts_in client.runs)) to_peer
-              tried.copies);
+          copies = tells_copies _ _ _ tells _ p _ (rw (← to_peer) tried.copies);
           later = since.later;
           earlier = since.earlier;
           is = since.is;
           timeouts = omega (arith, many, some);
           unreceived = λ packet bytes awaits spelled there.
-              elim (tells_received client.port client.noted _ tells p bytes there) [
+              elim (tells_received _ _ _ tells p _ there) [
                 | inl took ↦ absurd (g.unanswered.unheard packet bytes awaits spelled took)
                 | inr lost ↦ lost
               ];
@@ -127,8 +114,7 @@ module _ {S F D G K : Type 0} {stores : StoreMeaning S D} {sources : SourceMeani
                   a.answer,
                   a.awaited,
                   a.readable,
-                  tells_sent g.serves.port g.server_noted.own.noted _ g.server_noted.own.tells (client_at client)
-                      (canonical a.answer) a.there,
+                  tells_sent _ _ _ g.server_noted.own.tells _ _ a.there,
                 )
           ];
         }
@@ -140,9 +126,8 @@ clients_give_up : {S F D G K : Type 0} (stores : StoreMeaning S D) (sources : So
     outcome_of client.last.end.position.phase ≡ Some outcomes.TimedOut →
     is_complete client.last.end.position.phase ≡ false → GaveUpUnanswered programs client p
 clients_give_up stores sources inputs outputs programs order joined k client p found peer out incomplete =
-    gave_up programs client p peer out incomplete (served_by programs
-    (kept_at_last stores sources inputs outputs (traces_joint stores sources inputs outputs)
-    (λ p pad. server_steps_keep p pad) programs order joined 0) k client p found peer)
+    gave_up _ _ p peer out incomplete (served_by _ (kept_at_last _ _ _ _ (traces_joint stores sources inputs outputs)
+    (λ p pad. server_steps_keep p pad) _ _ joined 0) k _ p found peer)
 
 pub clients_seen : {S F D G K : Type 0} (stores : StoreMeaning S D) (sources : SourceMeaning F)
     (inputs : SourceMeaning G) (outputs : SinkMeaning K) → ClientsGiveUpUnanswered stores sources inputs outputs
@@ -166,8 +151,8 @@ module _ {S F D G K : Type 0} (stores : StoreMeaning S D) (sources : SourceMeani
       is_complete client.last.end.position.phase ≡ false → GaveUpUnheard programs client
   gave_up_unheard programs client none out incomplete =
       let unheard =
-      give_up_unheard inputs outputs client.first client.last.end _ (client_opening client.opens)
-      (client_lives client.runs) none out incomplete in
+      give_up_unheard inputs outputs client.first client.last.end _ (client_opening client.opens) (client_lives
+      client.runs) none out incomplete in
       let tells = client_tells client in
       let asks = still_asking client none in
       let there : client.last.end.position.last_sent_to ≡ requests_at programs = asks.1 ∙ asks_there client.opens in
@@ -177,11 +162,7 @@ module _ {S F D G K : Type 0} (stores : StoreMeaning S D) (sources : SourceMeani
         unheard = unheard;
         client_noted = client_noted client.before client.runs;
         request = asks.0;
-        copies =
-            tells_copies client.port client.noted _ tells (client.last.end.role.retries + 1) (requests_at programs)
-            client.first.position.last_sent
-            (subst (λ (a : Act). HasCopies (client.last.end.role.retries + 1) a (acts_in client.runs)) same
-            unheard.tried.copies);
+        copies = search (std_rules, tells_copies, requests_at, acts_in);
         unreceived = λ from bytes near had. elim (tells_received client.port client.noted _ tells from bytes had) [
           | inl took ↦ absurd (true≢false (sym near ∙ (rw there at (unheard.unheard from bytes took))))
           | inr lost ↦ lost
@@ -209,10 +190,8 @@ module _ {S F D G K : Type 0} (stores : StoreMeaning S D) (sources : SourceMeani
 
   pub transfers_give_up_unanswered : TransfersGiveUpUnanswered stores sources inputs outputs
   transfers_give_up_unanswered programs client p serves was living peer out incomplete =
-      give_up_unanswered sources (drafting_sink stores) inputs outputs p (client_at client) living.first serves.transfer.end _
-      client.first client.last.end _ living.begins living.life (client_opening client.opens)
-      (client_lives client.runs) (record {
-        x_peer = serves.peer;
-        y_peer = peer;
-        sides = flipped (is_sender serves.transfer.end.role.side) (is_sender client.last.end.role.side) serves.other;
-      }) out incomplete
+      give_up_unanswered sources (drafting_sink stores) inputs outputs p (client_at client) living.first
+      serves.transfer.end _
+      client.first client.last.end _ living.begins living.life (client_opening client.opens) (client_lives client.runs)
+      (search (flipped (is_sender serves.transfer.end.role.side) (is_sender client.last.end.role.side) serves.other))
+      out incomplete

@@ -1,5 +1,6 @@
 -- What a program received in an order of an honest network was sent to it by one of the programs, or may come though none
 -- sent it. For the law a_client_ends_for_a_reason.
+use Rattle.std.proofs.Common.{rules as std_rules}
 use Rattle.tftp_promises.proofs.Common.{List, ℕ, ◌≡◌, rules, sym, Endpoint, refl, [], ◌∙◌, ap, SourceMeaning, Some, inl}
 use Rattle.tftp_promises.proofs.Common.{StoreMeaning, inr, ◌∷◌, SinkMeaning, Programs, Bool, ◌⊎◌, Contains, SocketEvent}
 use Rattle.tftp_promises.proofs.Common.{arith, slice_get, Sent, ClientOf, if◌then◌else◌, client_at, Received, endpoint}
@@ -66,36 +67,21 @@ module _ {S F D G K : Type 0} {stores : StoreMeaning S D} {sources : SourceMeani
     sent_by : (program port : ℕ) (from to : Endpoint) (bytes : List ℕ) → IsAt programs program port from →
         Contains order (program, Sent port to bytes) → SentBy from to bytes
     sent_by zero port from to bytes at i =
-        let there = rw is_order.server at (noted_in 0 (Sent port to bytes) order i) in
+        let there = rw is_order.server at (noted_in 0 _ _ i) in
         let same = same_Some programs.ip at.0 at.1 in
         record {
-          before =
-              inl (record {
-                port = port;
-                at = at.2 ∙ ap (λ (ip : List ℕ). endpoint ip port) (sym same);
-                sent = there;
-              });
-          by = inl (port, has_in (Sent port to bytes) programs.server.noted there);
+          before = search std_rules;
+          by = inl (port, has_in _ _ there);
         }
     sent_by (suc k) port from to bytes at i =
         let m =
-        mapped (λ (c : Client). c.ip) (slice_get programs.clients k) at.0
-        (sym (slice_get-map (λ (c : Client). c.ip) programs.clients k) ∙ at.1) in
+        mapped (λ (c : Client). c.ip) (slice_get programs.clients k) at.0 (sym (slice_get-map (λ (c : Client). c.ip)
+        programs.clients k) ∙ at.1) in
         let there = rw (is_order.clients k m.0 m.1) at (noted_in (suc k) (Sent port to bytes) order i) in
-        let from_is : from ≡ endpoint m.0.ip port = at.2 ∙ ap (λ (ip : List ℕ). endpoint ip port) (sym m.2) in
+        let from_is = at.2 ∙ ap (λ (ip : List ℕ). endpoint ip port) (sym m.2) in
         record {
           before =
-              inr (record {
-                k = k;
-                client = m.0;
-                is_client = m.1;
-                stage = stage_of m.0;
-                is_stage =
-                    slice_get-map stage_of programs.clients k ∙ ap (option_map stage_of) m.1;
-                port = port;
-                at = from_is;
-                sent = there;
-              });
+              inr (search (stage_of m.0, slice_get-map stage_of programs.clients k ∙ ap (option_map stage_of) m.1));
           by =
               inr (
                 k,
@@ -121,19 +107,13 @@ module _ {S F D G K : Type 0} {stores : StoreMeaning S D} {sources : SourceMeani
         (bytes : List ℕ) → Has (Received client.port from bytes) client.noted → ComesTo from (client_at client) bytes
     came_to_client k client found from bytes there =
         came_to (suc k) client.port (client_at client) from bytes (λ to at.
-        let ip_is : Some client.ip ≡ Some at.0 =
-        sym (slice_get-map (λ (c : Client). c.ip) programs.clients k
-        ∙ ap (option_map (λ (c : Client). c.ip)) found)
-        ∙ at.1 in
-        at.2 ∙ ap (λ (ip : List ℕ). endpoint ip client.port) (sym (same_Some client.ip at.0 ip_is)))
-        (comes_at order honest (suc k) (Received client.port from bytes)
-        (rw (is_order.clients k client found) there))
+        let ip_is : Some client.ip ≡ Some at.0 = search (std_rules, slice_get-map, option_map) in
+        at.2 ∙ ap (λ (ip : List ℕ). endpoint ip client.port) (sym (same_Some client.ip at.0 ip_is))) (comes_at order
+        honest (suc k) (Received client.port from bytes) (rw (is_order.clients k client found) there))
 
     -- the server, at its request port
     pub came_to_server : (from : Endpoint) (bytes : List ℕ) →
         Has (Received programs.port from bytes) programs.server.noted → ComesTo from (requests_at programs) bytes
     came_to_server from bytes there =
-        came_to 0 programs.port (requests_at programs) from bytes
-        (λ to at. at.2 ∙ ap (λ (ip : List ℕ). endpoint ip programs.port) (sym (same_Some programs.ip at.0 at.1)))
-        (comes_at order honest 0 (Received programs.port from bytes)
-        (rw is_order.server there))
+        came_to 0 _ _ _ _ (λ to at. at.2 ∙ ap (λ (ip : List ℕ). endpoint ip programs.port) (sym (same_Some programs.ip
+        at.0 at.1))) (comes_at _ honest 0 _ (rw is_order.server there))

@@ -1,12 +1,12 @@
 -- The invariant of the programs between two of their steps: rules of the guarded machine lead to the views of all ends
 -- that were opened, and each datagram that was sent is one of its messages. That a message is there (`IsThere`) is said
 -- as for the turns of an end.
-use Rattle.tftp_promises.proofs.Common.{List, ℕ, ◌≡◌, rules, Endpoint, [], ◌∙◌, ap, SourceMeaning, Some, StoreMeaning}
-use Rattle.tftp_promises.proofs.Common.{◌∷◌, SinkMeaning, false, true, None, ◌++◌, Programs, Bool, EndState, ◌⊎◌}
-use Rattle.tftp_promises.proofs.Common.{Contains, Files, SocketEvent, Option, ◌≢◌, LoopState, slice_get, TransferState}
-use Rattle.tftp_promises.proofs.Common.{LoopStep, joined, ClientOf, outcome_of, OpenEnd, is_sender, client_at, endpoint}
-use Rattle.tftp_promises.proofs.Common.{Snapshot, at, Run, State, IsStranger, Moved, open_view, Mode, Sink, Source}
-use Rattle.tftp_promises.proofs.Common.{Spells, Message, moved_in, EndView, requests_at, IsPrefixOf, ◌<◌, Ok, is_client}
+use Rattle.tftp_promises.proofs.Common.{List, ℕ, ◌≡◌, rules, Endpoint, ◌∙◌, ap, SourceMeaning, Some, StoreMeaning, ◌∷◌}
+use Rattle.tftp_promises.proofs.Common.{SinkMeaning, false, true, None, ◌++◌, Programs, Bool, EndState, ◌⊎◌, Contains}
+use Rattle.tftp_promises.proofs.Common.{Files, SocketEvent, Option, ◌≢◌, LoopState, slice_get, TransferState, LoopStep}
+use Rattle.tftp_promises.proofs.Common.{joined, ClientOf, outcome_of, OpenEnd, is_sender, client_at, endpoint, Snapshot}
+use Rattle.tftp_promises.proofs.Common.{at, Run, State, IsStranger, Moved, open_view, Mode, Sink, Source, Spells}
+use Rattle.tftp_promises.proofs.Common.{Message, moved_in, EndView, requests_at, IsPrefixOf, ◌<◌, Ok, is_client}
 use Rattle.tftp_promises.proofs.Common.{IsShown, all_of, our_ports, WasSentBefore, Has_asked, place_at, moved_at}
 use Rattle.tftp_promises.proofs.Common.{peer_of, IsAmong, opened_at, WireRequest, ClientStage, HasClosed, GaveSince}
 use Rattle.tftp_promises.proofs.Common.{Network, EndKept, requested, IsUnblamed, slice_get-map, Opening, Unasked}
@@ -16,11 +16,6 @@ use Rattle.tftp_promises.specs.Openings.{AreEndsApart}
 use Rattle.tftp_promises.proofs.Places.{places}
 use Rattle.tftp_promises.proofs.Texts.{pad_to}
 pub use Rattle.tftp_rules.specs.EndShown.{IsThere, HasArrived}
-
--- no identifier is there twice
-abbrev pub AreKeyedOnce : {T : Type 0} → List (ℕ × T) → Type 0
-AreKeyedOnce [] = Unit {0}
-AreKeyedOnce (e ∷ held) = (at e.0 held ≡ None) × AreKeyedOnce held
 
 -- what holds of an end that was opened: its view is among these, and its last datagram among the messages; and it has
 -- blamed no peer that is no stranger, if `IsText` says which peers send the text of a file

@@ -1,5 +1,6 @@
 -- From one order of all events to a joint run. The last steps are taken off one by one, from the
 -- end of the order: a step leaves when the oldest of its events after a wait does.
+use Rattle.std.proofs.Common.{rules as std_rules}
 use Rattle.tftp_promises.proofs.Common.{List, ℕ, ◌≡◌, rules, sym, Endpoint, refl, [], ◌∙◌, ap, SourceMeaning, Some}
 use Rattle.tftp_promises.proofs.Common.{subst, inl, StoreMeaning, inr, ◌∷◌, SinkMeaning, None, ◌++◌, Programs, Contains}
 use Rattle.tftp_promises.proofs.Common.{Files, SocketEvent, Option, arith, ◌≢◌, LoopState, length, slice_get, LoopStep}
@@ -11,10 +12,10 @@ use Rattle.tftp_promises.proofs.Common.{CanTake, slice_get-set_same, Unasked, cl
 use Rattle.tftp_promises.proofs.Common.{IsOrder, option_map, client_moves, slice_get-set_other, DoesOwn, just_asked}
 use Rattle.tftp_promises.proofs.Common.{IsAt, Client_asks, Server_does, Client_does, All_begin, TracesAreJoint, Joint}
 use Rattle.tftp_promises.proofs.Common.{heads, noted_by, nothing_moved}
-use Rattle.std.proofs.lemmas.List.{length-set, length-map}
+use Rattle.std.proofs.lemmas.List.{length-set, length-map, set-set}
 use Rattle.std.proofs.lemmas.Option.{none-some}
 use Rattle.tftp_promises.proofs.ClientTraces.{converse}
-use Rattle.tftp_promises.proofs.Orders.{events_own, noted_in, set_again, set_own, all_are, mapped}
+use Rattle.tftp_promises.proofs.Orders.{events_own, noted_in, set_own, all_are, mapped}
 use Rattle.tftp_promises.proofs.StepEvents.{Split, split, no_more, step_back, split_in, oldest_in, past, past_waits}
 use Rattle.tftp_promises.proofs.StepEvents.{before_waits, at_first, ends_with, IsOther, IsQuiet, Silent, Notes, Rests}
 use Rattle.tftp_promises.proofs.StepEvents.{Acts, server_adds, client_adds}
@@ -94,25 +95,20 @@ module _ {S F D G K : Type 0} {stores : StoreMeaning S D} {sources : SourceMeani
       WasSentBefore sn from to bytes
   sent_before sn order fits zero port from to bytes at i =
       let same = same_Some programs.ip at.0 at.1 in
-      inl (record {
-        port = port;
-        at = at.2 ∙ ap (λ (ip : List ℕ). endpoint ip port) (sym same);
-        sent = server_in (Sent port to bytes) fits.server (noted_in 0 (Sent port to bytes) order i);
-      })
+      inl (search (
+        at.2 ∙ ap (λ (ip : List ℕ). endpoint ip port) (sym same),
+        server_in (Sent port to bytes) fits.server
+            (noted_in 0 (Sent port to bytes) order i),
+      ))
   sent_before sn order fits (suc k) port from to bytes at i =
-      let m = mapped (λ (c : Client). c.ip) (slice_get programs.clients k) at.0
-      (sym (slice_get-map (λ (c : Client). c.ip) programs.clients k) ∙ at.1) in
+      let m = mapped (λ (c : Client). c.ip) (slice_get programs.clients k) at.0 (sym (slice_get-map (λ (c : Client).
+      c.ip) programs.clients k) ∙ at.1) in
       let has = fits.clients k m.0 m.1 in
-      inr (record {
-        k = k;
-        client = m.0;
-        is_client = m.1;
-        stage = has.0;
-        is_stage = has.1;
-        port = port;
-        at = at.2 ∙ ap (λ (ip : List ℕ). endpoint ip port) (sym m.2);
-        sent = client_in port to bytes has.2 (noted_in (suc k) (Sent port to bytes) order i);
-      })
+      inr (search (
+        at.2 ∙ ap (λ (ip : List ℕ). endpoint ip port) (sym m.2),
+        client_in port to bytes has.2 (noted_in
+            (suc k) (Sent port to bytes) order i),
+      ))
 
   -- a program can take what comes to it
   can_take : (sn : Snapshot programs) (order : List Noted) → Fits sn order → (program : ℕ) (ip : List ℕ) →
@@ -121,12 +117,11 @@ module _ {S F D G K : Type 0} {stores : StoreMeaning S D} {sources : SourceMeani
       AllByRecursion IsOther ahead → e ≡ x → CanTake sn ip (ahead ++ x ∷ [])
   can_take sn order fits program ip is_ip e comes ahead x others same port from bytes i =
       let received = same ∙ oldest_in ahead x port from bytes others i in
-      let come : CanCome programs program (Received port from bytes) order =
-      subst (λ (z : SocketEvent). CanCome programs program z order) received comes in
+      let come : CanCome programs program (Received port from bytes) order = rw (received) at comes in
       elim come.2 [
         | inl sent ↦
-            inl (subst (λ (a : Endpoint). WasSentBefore sn from a bytes) (is_ip port come.0 come.1)
-            (sent_before sn order fits sent.program sent.port from come.0 bytes sent.is_at sent.sent))
+            inl (rw (is_ip port come.0 come.1) at (sent_before sn order fits sent.program sent.port from come.0 bytes
+            sent.is_at sent.sent))
         | inr nevertheless ↦ inr nevertheless
       ]
 
@@ -136,8 +131,7 @@ module _ {S F D G K : Type 0} {stores : StoreMeaning S D} {sources : SourceMeani
   server_rests : {old new : LoopState S F D} {run : ServerRun old} {noted : List SocketEvent}
       {clients : List (ClientStage G K)} → Joint (snap run noted clients) → (does : LoopStep stores sources old new) →
       new.events ≡ old.events → Joint (snap (Then run does) noted clients)
-  server_rests joint does same =
-      Server_does joint does [] same (λ port from bytes i. absurd (let l = i.1 in omega arith))
+  server_rests joint does same = Server_does joint does [] same (λ port from bytes i. absurd (omega arith))
 
   -- at the beginning of the order the server has made silent steps only
   server_first : {state : LoopState S F D} (run : ServerRun state) (noted : List SocketEvent)
@@ -164,25 +158,20 @@ module _ {S F D G K : Type 0} {stores : StoreMeaning S D} {sources : SourceMeani
         old.events ≡ old_noted ++ programs.server.start.events → (does : LoopStep stores sources old new) →
         Split old.events new.events old_noted noted (e ∷ events_of 0 earlier) →
         Joint (snap (Then run does) noted clients)
-    server_steps {old = old} {new = new} {run = run} {old_noted = old_noted} {noted = noted} is does
-        (split ahead x [] others own added noted_is seen_is) =
+    server_steps {old = old} {new = new} {run = run} {old_noted = old_noted} {noted = noted} is does (split ahead x []
+        others own added noted_is seen_is) =
         let h = heads e x (events_of 0 earlier) old_noted seen_is in
         let fits : Fits (snap run old_noted clients) earlier =
         record { server = After_steps is (sym h.1); count = count; clients = fit } in
         let joint = ih (snap run old_noted clients) fits in
         let ip_is : (port : ℕ) (a : Endpoint) → IsAt programs 0 port a →
-        a ≡ endpoint programs.ip port = λ port a at. at.2 ∙ ap (λ (ip : List ℕ). endpoint ip port)
-        (sym (same_Some programs.ip at.0 at.1)) in
-        let takes =
-        can_take (snap run old_noted clients) earlier fits 0 programs.ip ip_is e comes ahead x others h.0 in
-        subst (λ (es : List SocketEvent). Joint (snap (Then run does) es clients)) (sym noted_is)
-        (Server_does joint does (ahead ++ x ∷ []) added takes)
+        a ≡ endpoint programs.ip port = search std_rules in
+        let takes = can_take (snap run old_noted clients) earlier fits 0 programs.ip ip_is e comes ahead x others h.0 in
+        rw (noted_is) (Server_does joint does (ahead ++ x ∷ []) added takes)
     server_steps {run = run} {noted = noted} is does (split ahead x (y ∷ rest) others own added noted_is seen_is) =
         let h = heads e x (events_of 0 earlier) (y ∷ rest ++ _) seen_is in
-        ih (snap (Then run does) noted clients)
-        (record {
-          server = Within_step is does (step_back ahead x y rest (events_of 0 earlier) others own added noted_is
-              h.1);
+        ih (snap (Then run does) noted clients) (record {
+          server = Within_step is does (step_back _ x y _ _ others own added noted_is h.1);
           count = count;
           clients = fit;
         })
@@ -191,9 +180,7 @@ module _ {S F D G K : Type 0} {stores : StoreMeaning S D} {sources : SourceMeani
     server_back : {state : LoopState S F D} (run : ServerRun state) (noted : List SocketEvent) →
         state.events ≡ noted ++ programs.server.start.events → noted ≡ e ∷ events_of 0 earlier →
         Joint (snap run noted clients)
-    server_back Start noted is seen_is =
-        no_more e (events_of 0 earlier)
-        (sym (at_first programs.server.start.events programs.server.start.events noted refl is) ∙ seen_is)
+    server_back Start noted is seen_is = no_more e _ (sym (at_first _ _ _ refl is) ∙ seen_is)
     server_back (Then {middle = old} {last = new} run does) noted is seen_is = elim (server_adds does) [
       | Silent same ↦ server_rests (server_back run noted (sym same ∙ is) seen_is) does same
       | Notes x rest own added ↦
@@ -234,12 +221,11 @@ module _ {S F D G K : Type 0} {stores : StoreMeaning S D} {sources : SourceMeani
     count = length-set sn.clients k stage ∙ others.count;
     clients = λ j c is. elim (cases_eq j k) [
       | inl same ↦
-          let c_is : client ≡ c =
-          same_Some client c (sym is_client ∙ (ap (λ (i : ℕ). slice_get programs.clients i) (sym same) ∙ is)) in
+          let c_is : client ≡ c = search std_rules in
           let own : ClientHas (set sn.clients k stage) order k client =
           (stage, slice_get-set_same sn.clients k stage others.there.0 others.there.1, fits) in
-          subst (λ (i : ℕ). ClientHas (set sn.clients k stage) order i c) (sym same)
-          (subst (λ (z : Client). ClientHas (set sn.clients k stage) order k z) c_is own)
+          subst (λ (i : ℕ). ClientHas (set sn.clients k stage) order i c) (sym same) (subst (λ (z : Client). ClientHas
+          (set sn.clients k stage) order k z) c_is own)
       | inr n ↦ let has = others.clients j c n is in (has.0, slice_get-set_other sn.clients k j stage n ∙ has.1, has.2)
     ];
   }
@@ -267,7 +253,7 @@ module _ {S F D G K : Type 0} {stores : StoreMeaning S D} {sources : SourceMeani
         Joint (At (Has_asked s' files' (added ++ noted) (client_moves does moved)))
     client_goes {s = s} {s' = s'} {files = files} {files' = files'} noted moved joint does so added is takes =
         subst (λ (stages : List (ClientStage G K)). Joint (With stages))
-        (set_again sn.clients k (Has_asked s files noted moved)
+        (set-set sn.clients k (Has_asked s files noted moved)
         (Has_asked s' files' (added ++ noted) (client_moves does moved)))
         (Client_does joint k client is_client (stage_is (Has_asked s files noted moved)) does so added is takes)
 
@@ -308,7 +294,7 @@ module _ {S F D G K : Type 0} {stores : StoreMeaning S D} {sources : SourceMeani
         let joint = ih (At Unasked) (all_fit k client sn earlier is_client others Unasked (Not_yet none)) in
         let asks =
         subst (λ (stages : List (ClientStage G K)). Joint (With stages))
-        (set_again sn.clients k Unasked (just_asked client))
+        (set-set sn.clients k Unasked (just_asked client))
         (Client_asks joint k client is_client (stage_is Unasked)) in
         subst (λ (es : List SocketEvent). Joint
         (At (Has_asked (begun client.backoff client.port client.reading client.first client.before) client.file es
@@ -356,14 +342,12 @@ module _ {S F D G K : Type 0} {stores : StoreMeaning S D} {sources : SourceMeani
       Fits sn ((suc k, e) ∷ earlier) → (o : Option Client) → slice_get programs.clients k ≡ o → Joint sn
   of_client k e earlier comes ih sn fits None none =
       let apart : (j : ℕ) (client : Client) → slice_get programs.clients j ≡ Some client → j ≢ k =
-      λ j client is same. none-some client
-      (sym none ∙ (ap (λ (i : ℕ). slice_get programs.clients i) (sym same) ∙ is)) in
+      λ j client is same. none-some client (sym none ∙ (ap (λ (i : ℕ). slice_get programs.clients i) (sym same) ∙ is))
+      in
       ih sn (record {
         server = server_other sn k e earlier fits.server;
         count = fits.count;
-        clients =
-            λ j client is. has_other sn.clients j client (suc k) e earlier (not_suc j k (apart j client is))
-            (fits.clients j client is);
+        clients = λ j client is. has_other _ j _ _ e _ (not_suc j k (apart j client is)) (fits.clients j client is);
       })
   of_client k e earlier comes ih sn fits (Some client) is_client =
       let has = fits.clients k client is_client in
@@ -371,23 +355,18 @@ module _ {S F D G K : Type 0} {stores : StoreMeaning S D} {sources : SourceMeani
         server = server_other sn k e earlier fits.server;
         count = fits.count;
         there = (has.0, has.1);
-        clients = λ j c n is. has_other sn.clients j c (suc k) e earlier (not_suc j k n) (fits.clients j c is);
+        clients = λ j c n is. has_other _ j c _ e _ (not_suc j k n) (fits.clients j c is);
       } in
-      subst (λ (stages : List (ClientStage G K)). Joint (record sn { clients = stages }))
-      (set_own sn.clients k has.0 has.1)
-      (client_any k client is_client e earlier comes sn others ih
-      (subst (λ (es : List SocketEvent). ClientFits client es has.0) (events_own (suc k) e earlier) has.2))
+      rw (← set_own sn.clients k has.0 has.1) (client_any k client is_client e earlier comes sn others ih (subst (λ (es
+      : List SocketEvent). ClientFits client es has.0) (events_own (suc k) e earlier) has.2))
 
   of_program : (p : ℕ) (e : SocketEvent) (earlier : List Noted) → CanCome programs p e earlier →
       ((old : Snapshot programs) → Fits old earlier → Joint old) →
       (sn : Snapshot programs) → Fits sn ((p, e) ∷ earlier) → Joint sn
   of_program zero e earlier comes ih sn fits =
-      server_any e earlier comes sn.clients fits.count
-      (λ j c is. has_other sn.clients j c 0 e earlier (let n : suc j ≢ zero = omega arith in n)
-      (fits.clients j c is)) ih
-      (subst (λ (es : List SocketEvent). ServerFits es sn.state sn.run sn.noted) (events_own 0 e earlier) fits.server)
-  of_program (suc k) e earlier comes ih sn fits =
-      of_client k e earlier comes ih sn fits (slice_get programs.clients k) refl
+      server_any e _ comes _ fits.count (λ j c is. has_other _ j c 0 e _ (let n : suc j ≢ zero = omega arith in n)
+      (fits.clients j c is)) ih (rw (← events_own 0 e earlier) fits.server)
+  of_program (suc k) e earlier comes ih sn fits = of_client k e _ comes ih sn fits (slice_get programs.clients k) refl
 
   -- at the beginning of the order no client has sent its request
   client_first : (client : Client) {stage : ClientStage G K} → ClientFits client [] stage → stage ≡ Unasked
@@ -404,8 +383,7 @@ module _ {S F D G K : Type 0} {stores : StoreMeaning S D} {sources : SourceMeani
       {noted : List SocketEvent} → map (λ (client : Client). Unasked) programs.clients ≡ clients →
       ServerFits [] state run noted → Joint (snap run noted clients)
   all_first clients all (After_steps {run = run} {noted = noted} is none) = server_first run noted clients is none all
-  all_first clients all (Within_step is does (split ahead x rest others own added noted_is none)) =
-      no_more x (rest ++ _) none
+  all_first clients all (Within_step is does (split ahead x rest others own added noted_is none)) = no_more x _ none
 
   joint_to : (order : List Noted) → IsHonest programs order → (sn : Snapshot programs) → Fits sn order → Joint sn
   joint_to [] honest sn fits =

@@ -1,16 +1,16 @@
 -- A client that sends its request keeps the invariant.
+use Rattle.std.proofs.Common.{rules as std_rules}
 use Rattle.tftp_promises.proofs.Common.{List, ℕ, ◌≡◌, rules, sym, Endpoint, refl, [], ◌∙◌, ap, SourceMeaning, Some}
 use Rattle.tftp_promises.proofs.Common.{subst, inl, StoreMeaning, inr, ◌∷◌, SinkMeaning, false, true, None, ◌++◌}
 use Rattle.tftp_promises.proofs.Common.{Programs, Bool, EndState, Contains, Files, SocketEvent, true≢false, length}
 use Rattle.tftp_promises.proofs.Common.{slice_get, Sent, joined, ClientOf, outcome_of, OpenEnd, client_at, endpoint}
 use Rattle.tftp_promises.proofs.Common.{Snapshot, same_Some, State, Moved, open_view, Sink, Source, Spells, Message}
-use Rattle.tftp_promises.proofs.Common.{moved_in, EndView, Contains-push, requests_at, is_client, IsShown, message}
-use Rattle.tftp_promises.proofs.Common.{Has_asked, said, WireRequest, ClientOpens, begun, EndKept, requested, To_read}
-use Rattle.tftp_promises.proofs.Common.{To_write, request_of, Unasked, client_did, terms_of, wire_text, Request}
-use Rattle.tftp_promises.proofs.Common.{just_asked, Gave_nothing, OpensToWrite, OpensToRead, IsValid, getting}
-use Rattle.tftp_promises.proofs.Common.{nothing_moved, slice_get-push_new, NoneAt, canonical}
+use Rattle.tftp_promises.proofs.Common.{moved_in, Contains-push, requests_at, is_client, IsShown, message, Has_asked}
+use Rattle.tftp_promises.proofs.Common.{said, WireRequest, ClientOpens, begun, EndKept, requested, To_read, To_write}
+use Rattle.tftp_promises.proofs.Common.{request_of, Unasked, client_did, terms_of, wire_text, Request, just_asked}
+use Rattle.tftp_promises.proofs.Common.{Gave_nothing, OpensToWrite, OpensToRead, IsValid, getting, nothing_moved}
+use Rattle.tftp_promises.proofs.Common.{slice_get-push_new, NoneAt, canonical}
 use Rattle.tftp_ends.specs.Opening.{putting}
-use Rattle.tftp_rules.specs.Machine.{Packet}
 use Rattle.tftp_rules.specs.Rules.{asking}
 use Rattle.tftp_rules.specs.Shows.{view_of}
 use Rattle.tftp_rules.proofs.Actions.{asks}
@@ -82,8 +82,7 @@ module _ {S F D G K : Type 0} {stores : StoreMeaning S D} {sources : SourceMeani
       Requests first files
   to_write first files h bytes text measured own =
       let e = putting to h.name h.mode h.asked h.length h.limit h.retries in
-      subst (λ (z : EndState). Requests z files) (sym h.is) (subst (λ (f : Files G K). Requests e f) (sym h.is_file)
-      (record {
+      subst (λ z. Requests z files) (sym h.is) (subst (λ f. Requests e f) (sym h.is_file) (record {
         write = true;
         request = request_of h.name h.mode h.asked;
         bytes = bytes;
@@ -94,12 +93,7 @@ module _ {S F D G K : Type 0} {stores : StoreMeaning S D} {sources : SourceMeani
         last_sent_to = refl;
         view = refl;
         none = λ c. absurd (true≢false c);
-        kept =
-            record {
-              phase = (refl, h.may.options.askable, refl, refl, λ _. refl, λ _. measured);
-              held_back = nothing_held h.mode;
-              committed = λ c. absurd (true≢false c);
-            };
+        kept = search std_rules;
         side = refl;
         still = refl;
         alone = refl;
@@ -112,19 +106,14 @@ module _ {S F D G K : Type 0} {stores : StoreMeaning S D} {sources : SourceMeani
       to_read client.first client.file h (record {
         role = ap (λ (z : EndState). z.role) (sym h.is);
         text = λ s. absurd (true≢false (sym s));
-        file = (
-          refl,
-          record { stored = refl; committed = λ c. absurd (true≢false (sym c)); refuses = refl },
-          tt,
-        );
+        file = search std_rules;
       })
   requests (To_write h) =
       let text = client_text programs pad client in
       let measured : h.length ≡ length text =
-      ap (λ (z : EndState). z.role.length) (sym h.is)
-      ∙ sym (pad_length pad client.first.role.length (moved_in client.runs).bytes) in
-      to_write client.first client.file h [] text measured
-      (record {
+      ap (λ (z : EndState). z.role.length) (sym h.is) ∙ sym (pad_length pad client.first.role.length (moved_in
+      client.runs).bytes) in
+      to_write client.first client.file h [] text measured (record {
         role = ap (λ (z : EndState). z.role) (sym h.is);
         text = λ s. refl;
         file = (
@@ -177,20 +166,14 @@ module _ {S F D G K : Type 0} {stores : StoreMeaning S D} {sources : SourceMeani
     its_message = (
       requested h.write h.request,
       spelled,
-      subst (λ (to : Endpoint). Contains (kept.messages ++ m ∷ []) (message a to (said (requested h.write h.request))))
-          (sym h.last_sent_to) (Contains-push kept.messages m),
+      rw (h.last_sent_to) (Contains-push kept.messages m),
     )
 
     shown_now : IsShown (joined programs) (kept.views ++ open_view x ∷ []) (kept.messages ++ m ∷ [])
     shown_now =
-        let now =
-        asks (joined programs) kept.shown.0 kept.views kept.messages kept.shown.1 a h.write h.request h.asked
+        let now = asks (joined programs) kept.shown.0 kept.views kept.messages kept.shown.1 a h.write h.request h.asked
         (clients_there programs k client found) nobody_there h.none in
-        subst (λ (v : EndView). IsShown (joined programs) (kept.views ++ v ∷ []) (kept.messages ++ m ∷ [])) (sym h.view)
-        (subst (λ (p : Packet). IsShown (joined programs)
-        (kept.views ++ view_of a [] (asking h.write h.request h.asked) ∷ [])
-        (kept.messages ++ message a (joined programs).request_port p ∷ []))
-        (sym (says_request h.write h.request)) (kept.shown.0 ++ now.0, now.2))
+        search std_rules
 
     one_event : (port : ℕ) (to : Endpoint) (bytes : List ℕ) →
         Contains (Sent client.port client.first.position.last_sent_to client.first.position.last_sent ∷ [])

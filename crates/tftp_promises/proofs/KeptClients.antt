@@ -1,5 +1,7 @@
 -- A step of a client keeps the invariant, if it does of the client's own end.
-use Rattle.tftp_promises.proofs.Common.{List, ℕ, ◌≡◌, sym, Endpoint, refl, [], ◌∙◌, ap, SourceMeaning, Some, subst, inl}
+use Rattle.std.proofs.lemmas.Grind.{common_steps}
+use Rattle.std.proofs.Common.{arith}
+use Rattle.tftp_promises.proofs.Common.{List, ℕ, ◌≡◌, sym, Endpoint, [], ◌∙◌, ap, SourceMeaning, Some, subst, inl}
 use Rattle.tftp_promises.proofs.Common.{StoreMeaning, inr, SinkMeaning, ◌++◌, Programs, ◌⊎◌, Contains, Files}
 use Rattle.tftp_promises.proofs.Common.{SocketEvent, Option, ◌≢◌, slice_get, TransferState, Sent, joined, ClientOf}
 use Rattle.tftp_promises.proofs.Common.{OpenEnd, client_at, endpoint, Snapshot, same_Some, Turn, State, IsStranger}
@@ -7,7 +9,6 @@ use Rattle.tftp_promises.proofs.Common.{Moved, open_view, Message, EndView, Cont
 use Rattle.tftp_promises.proofs.Common.{message, WasSentBefore, Has_asked, said, Contains-append_cases, IsAmong, set}
 use Rattle.tftp_promises.proofs.Common.{end_after, ClientStage, Holding, IsUnblamed, slice_get-set_same, client_did}
 use Rattle.tftp_promises.proofs.Common.{Goes, slice_get-set_other, unblamed_still, noted_by, slice_get-set_cases}
-use Rattle.tftp_promises.proofs.Common.{EndState}
 use Rattle.tftp_rules.specs.EndShown.{Replies, Newest}
 use Rattle.tftp_promises.proofs.Invariant.{IsThere, HasTransferBy, ClientKept, StageKept, TransferKept, IsOfClient}
 use Rattle.tftp_promises.proofs.Invariant.{IsOfTransfer, IsKept, IsFreshBy, SendsText, same_transfer, HasFile}
@@ -71,10 +72,9 @@ module _ {S F D G K : Type 0} {stores : StoreMeaning S D} {sources : SourceMeani
     all_sent from to bytes (inl h) = before from to bytes (inl (record { port = h.port; at = h.at; sent = h.sent }))
     all_sent from to bytes (inr h) = elim (slice_get-set_cases old.clients k h.k next h.stage h.is_stage) [
       | inl e ↦
-          by_client h.client h.stage h.port from to bytes (one_client h.k k h.client client h.is_client found e.0) e.1
-          h.at h.sent
+          by_client _ _ _ _ _ _ (one_client _ k _ _ h.is_client found e.0) e.1 h.at h.sent
       | inr e ↦
-          before from to bytes (inr (search))
+          before _ _ _ (inr (search))
     ]
 
     all_clients : (j : ℕ) (c : ClientOf programs) (stage : ClientStage G K) → slice_get programs.clients j ≡ Some c →
@@ -98,22 +98,11 @@ module _ {S F D G K : Type 0} {stores : StoreMeaning S D} {sources : SourceMeani
 
     -- it is there now, and a client that had asked is there still
     here_now : (a : Endpoint) → client_at client ≡ a → IsOfClient programs new.clients a
-    here_now a here = record {
-      k = k;
-      client = client;
-      found = found;
-      s = s;
-      files = files;
-      noted = noted;
-      moved = moved;
-      is_stage = slice_get-set_same old.clients k next was is_stage;
-      address = sym here;
-    }
+    here_now a here = search (slice_get-set_same old.clients k next was is_stage, sym here)
 
     asked_still : (a : Endpoint) → IsOfClient programs old.clients a → IsOfClient programs new.clients a
     asked_still a h = elim (cases_eq h.k k) [
-      | inl same ↦ here_now a (sym (h.address ∙ ap (λ (z : ClientOf programs). client_at z) (one_client h.k k h.client
-          client h.found found same)))
+      | inl same ↦ here_now a (sym (h.address ∙ ap (λ z. client_at z) (one_client _ k _ _ h.found found same)))
       | inr n ↦ search (slice_get-set_other old.clients k h.k next n ∙ h.is_stage)
     ]
 
@@ -152,11 +141,10 @@ pub reply_there : (messages said_now : List Message) (from : Endpoint) (reply : 
     reply ≡ Some (record { to = to; bytes = bytes }) → IsThere (messages ++ said_now) from to bytes
 reply_there messages said_now from reply to bytes r e =
     let h : Replies from (Some (record { to = to; bytes = bytes })) said_now =
-    subst (λ (z : Option Reply). Replies from z said_now) e r in (
+    rw (e) at r in (
       h.0,
       h.1,
-      subst (λ (ms : List Message). Contains (messages ++ ms) (message from to (said h.0))) (sym h.2)
-          (Contains-push messages (message from to (said h.0))),
+      rw (sym h.2) at (Contains-push messages (message from to (said h.0))),
     )
 
 -- the last datagram of an end that has turned is there
@@ -164,12 +152,8 @@ pub newest_there : (messages said_now : List Message) (x y : OpenEnd) (turn : Tu
     Replies x.address turn.reply said_now → Newest x turn y →
     IsThere messages x.address x.state.position.last_sent_to x.state.position.last_sent →
     IsThere (messages ++ said_now) x.address y.state.position.last_sent_to y.state.position.last_sent
-newest_there messages said_now x y turn r (inl e) old =
-    subst (λ (to : Endpoint). IsThere (messages ++ said_now) x.address to y.state.position.last_sent) (sym e.0)
-    (subst (λ (b : List ℕ). IsThere (messages ++ said_now) x.address x.state.position.last_sent_to b) (sym e.1)
-    (there_still messages said_now old))
-newest_there messages said_now x y turn r (inr e) old =
-    reply_there messages said_now x.address turn.reply y.state.position.last_sent_to y.state.position.last_sent r e
+newest_there messages said_now x y turn r (inl e) old = grind (arith, common_steps)
+newest_there messages said_now x y turn r (inr e) old = reply_there messages _ _ _ _ _ r e
 
 module _ {S F D G K : Type 0} {stores : StoreMeaning S D} {sources : SourceMeaning F} {inputs : SourceMeaning G}
     {outputs : SinkMeaning K} {programs : Programs stores sources inputs outputs} {pad : ℕ} {old : Snapshot programs}
@@ -186,17 +170,7 @@ module _ {S F D G K : Type 0} {stores : StoreMeaning S D} {sources : SourceMeani
   -- what was noted before
   noted_before : (port : ℕ) (to : Endpoint) (bytes : List ℕ) → Contains noted (Sent port to bytes) →
       WasSentBefore old (endpoint client.ip port) to bytes
-  noted_before port to bytes sent =
-      inr (record {
-        k = k;
-        client = client;
-        is_client = found;
-        stage = Has_asked s files noted moved;
-        is_stage = is_stage;
-        port = port;
-        at = refl;
-        sent = sent;
-      })
+  noted_before port to bytes sent = inr (search (Has_asked s files noted moved))
 
   -- a turn
   module _ (turn : Turn) (held : Files (List ℕ) Holding)
@@ -221,29 +195,26 @@ module _ {S F D G K : Type 0} {stores : StoreMeaning S D} {sources : SourceMeani
       | inl now ↦
           let h = sends port to bytes now in
           let there = reply_there kept.messages goes.said_now own.end.address turn.reply to bytes goes.replies h.1 in
-          inr (subst (λ (p : ℕ). IsThere messages (endpoint client.ip p) to bytes) h.0
-          (subst (λ (a : Endpoint). IsThere messages a to bytes) own.address there))
+          inr (rw (← h.0) (subst (λ (a : Endpoint). IsThere messages a to bytes) own.address there))
       | inr before ↦ inl (noted_before port to bytes before)
     ]
 
     pub turn_keeps : IsKept pad (client_did old k (Has_asked s' files' (added ++ noted) moved'))
     turn_keeps =
-        client_keeps kept fresh k client found (Has_asked s files noted moved) is_stage s' files' (added ++ noted) moved'
-        (turned here own.viewed.index (open_view own.end) y own.viewed.viewed own.address address goes.said_now
-        (kept.shown.0 ++ goes.shown.0, goes.shown.2)) (record {
+        client_keeps kept fresh k client found (Has_asked s files noted moved) is_stage s' files' (added ++ noted)
+        moved'
+        (turned _ _ _ y own.viewed.viewed own.address address _ (kept.shown.0 ++ goes.shown.0, goes.shown.2)) (record {
           end = y;
           address = address;
-          state = ap (λ (e : EndState). after_turn e turn) own.state ∙ sym state;
+          state = ap (λ e. after_turn e turn) own.state ∙ sym state;
           side = own.side;
-          viewed = record {
-            kept = goes.kept;
-            index = own.viewed.index;
-            viewed = slice_get-set_same kept.views own.viewed.index (open_view y) (open_view own.end) own.viewed.viewed;
-            last_sent =
-                newest_there kept.messages goes.said_now own.end y turn goes.replies goes.last_sent own.viewed.last_sent;
-            unblamed = unblamed_still (joined programs) kept.messages goes.said_now y.state unblamed;
-          };
-          asks = there_still kept.messages goes.said_now own.asks;
+          viewed =
+              search (
+                slice_get-set_same kept.views own.viewed.index (open_view y) (open_view own.end) own.viewed.viewed,
+                newest_there kept.messages goes.said_now own.end y turn goes.replies goes.last_sent own.viewed.last_sent,
+                unblamed_still (joined programs) kept.messages goes.said_now y.state unblamed,
+              );
+          asks = there_still _ goes.said_now own.asks;
           has = has;
         }) its_notes
 

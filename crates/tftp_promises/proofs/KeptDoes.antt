@@ -82,13 +82,9 @@ module _ {S F D G K : Type 0} {stores : StoreMeaning S D} {sources : SourceMeani
   GivesNone files files' = AreSame (λ (a b : G). inputs.gives a [] b) (λ (a b : K). ⊤) files files'
 
   none_given : (files files' : Files G K) → GivesNone files files' → Has files → Has files'
-  none_given files files' none h = record {
-    role = h.role;
-    text = h.text;
-    file = file_on (ClientGiven programs client) AnySink x moved
-        (λ s s' same g. record { first = g.first; is_first = g.is_first; since = gave_none g.since same })
-        (λ k k' same t. tt) files files' none h.file;
-  }
+  none_given files files' none h = assumption (file_on (ClientGiven programs client) AnySink x moved (λ s s' same g.
+      record { first = g.first; is_first = g.is_first; since = gave_none g.since same }) (λ k k' same t. tt) files
+      files' none h.file)
 
   -- after a datagram that was lost
   pub file_kept : (files files' : Files G K) → KeepsFiles inputs outputs files files' → Has files → Has files'
@@ -159,12 +155,12 @@ module _ {S F D G K : Type 0} {stores : StoreMeaning S D} {sources : SourceMeani
         IsFromServer (joined programs) x from bytes
     serves there takes_own no_peer same p spells answer =
         let near : from.ip ≡ programs.ip = sym (same_ips (joined programs).request_port from same) in
-        answer_from_server (joined programs) kept.views kept.messages kept.shown from x.address
-        (near_server programs from near (λ other. takes_own no_peer
-        (record { near = near; other = other; no_error = no_error_of p bytes spells answer })))
-        (ap (joined programs).host_of o.address
-        ∙ clients_there programs k client found)
-        p answer (there p spells)
+        answer_from_server _ _ _ kept.shown _ _ (near_server programs from near (λ other. takes_own no_peer (record {
+          near = near;
+          other = other;
+          no_error = no_error_of p bytes spells answer;
+        }))) (ap (joined programs).host_of
+        o.address ∙ clients_there programs k client found) p answer (there p spells)
 
     -- the end answers it
     pub answers : HasArrived kept.messages from here bytes →
@@ -178,41 +174,38 @@ module _ {S F D G K : Type 0} {stores : StoreMeaning S D} {sources : SourceMeani
         (step_moves inputs outputs from bytes s.end files turn files' step moved)
     answers arrived spelled turn files' added still step takes_own told events =
         let added_is = added_by client.port turn.reply receipt s.events added events in
-        let there : HasArrived kept.messages from x.address bytes =
-        subst (λ (a : Endpoint). HasArrived kept.messages from a bytes) (sym o.address) arrived in
-        let from_server : IsFromServer (joined programs) x from bytes =
-        serves there (subst (λ (e : EndState). peer_of e.position.phase ≡ None →
-        IsOtherAnswer programs.ip programs.others from bytes → ⊥) (sym o.state) takes_own) in
-        let Over : EndState → Type 0 = λ (e : EndState).
-        (step : DatagramStep inputs outputs from bytes e files turn files') →
-        IsPrefixOf (step_moves inputs outputs from bytes e files turn files' step moved).bytes
-        (moved_in client.runs).bytes →
-        MovesOver (ClientGiven programs client) AnySink x from bytes turn files'
-        (step_moves inputs outputs from bytes e files turn files' step moved)
+        let there : HasArrived kept.messages from x.address bytes = rw (o.address) arrived in
+        let from_server : IsFromServer (joined programs) x from bytes = serves there (rw (o.state) takes_own) in
+        let Over : EndState → Type 0 = λ (e : EndState). (step : DatagramStep inputs outputs from bytes e files turn
+        files') →
+        IsPrefixOf (step_moves inputs outputs from bytes e files turn files' step moved).bytes (moved_in
+        client.runs).bytes →
+        MovesOver (ClientGiven programs client) AnySink x from bytes turn files' (step_moves inputs outputs from bytes e
+        files turn files' step moved)
         in
         let over =
         subst Over o.state (λ step_x told_x. step_over programs pad client x moved (joined programs) o.viewed.kept
         (still_open still) from bytes turn files files' o.has step_x told_x) step told in
         let goes =
         datagram_goes (joined programs) kept.shown.0 kept.views kept.messages o.viewed.index x from bytes turn
-        over.content
-        (record {
+        over.content (record {
           stands = stands;
           kept = o.viewed.kept;
           still = ap is_some (still_open still);
           last_sent = o.viewed.last_sent;
-        })
-        there from_server over.steps in
+        }) there from_server over.steps in
         let unblamed =
         turn_unblamed kept fresh x o.viewed (still_open still) (λ same. fresh.ends.apart k programs.port client found
-        (Contains-append_left (programs.port ∷ []) (our_ports programs old.run) programs.port
-        (Contains-push [] programs.port)) (sym o.address ∙ same))
-        from bytes there spelled from_server turn over.content over.steps in
-        turn_keeps kept fresh c turn over.content goes
-        (turned client.port turn (received client.port from bytes watch s)) refl files'
-        (step_moves inputs outputs from bytes s.end files turn files' step moved) unblamed
-        (record { role = o.has.role; text = o.has.text; file = over.file }) added (λ port to b c. answered_sends client.port turn.reply receipt receipt_silent port to b
-        (subst (λ (es : List SocketEvent). Contains es (Sent port to b)) (sym added_is) c))
+        (Contains-append_left (programs.port ∷ []) (our_ports programs old.run) programs.port (Contains-push []
+        programs.port)) (sym o.address ∙ same)) from bytes there spelled from_server turn over.content over.steps in
+        turn_keeps kept fresh c turn over.content goes (turned client.port turn (received client.port from bytes watch
+        s)) refl files' (step_moves inputs outputs from bytes s.end files turn files' step moved) unblamed (record {
+          role = o.has.role;
+          text = o.has.text;
+          file = over.file;
+        }) added (λ port to b c. answered_sends client.port
+        turn.reply receipt receipt_silent port to b
+        (rw (added_is) c))
 
   -- ---- a timeout
   pub times_out : (added : List SocketEvent) → IsOpen s.end →
@@ -220,33 +213,27 @@ module _ {S F D G K : Type 0} {stores : StoreMeaning S D} {sources : SourceMeani
       Then_keeps (elapsed client.port s) files added moved
   times_out added still events =
       let turn = timeout_turn x.state in
-      let goes = timeout_goes (joined programs) kept.shown.0 kept.views kept.messages o.viewed.index x
-      (record {
+      let goes = timeout_goes (joined programs) kept.shown.0 kept.views kept.messages o.viewed.index x (record {
         stands = stands;
         kept = o.viewed.kept;
         still = ap is_some (still_open still);
         last_sent = o.viewed.last_sent;
       }) in
-      let added_is =
-      added_by client.port (timeout_turn s.end).reply (Elapsed client.port s.now ∷ []) s.events added events in
+      let added_is = added_by _ _ _ _ _ events in
       let same : timeout_turn s.end ≡ turn = ap timeout_turn (sym o.state) in
-      turn_keeps kept fresh c turn (files_of x) goes
-      (elapsed client.port s) (ap (after_turn s.end) same) files moved
-      (timeout_unblamed (joined programs) kept.messages x.state o.viewed.unblamed)
-      (file_same programs pad client x moved turn files (λ c. still_open still) o.has)
-      added (λ port to b c. subst (λ (t : Turn). (client.port ≡ port)
-      × (t.reply ≡ Some (record { to = to; bytes = b }))) same
-      (answered_sends client.port (timeout_turn s.end).reply (Elapsed client.port s.now ∷ [])
-      (elapsed_silent client.port s.now) port to b (subst (λ (es : List SocketEvent). Contains es (Sent port to b))
-      (sym added_is) c)))
+      turn_keeps kept fresh c turn (files_of x) goes (elapsed client.port s) (ap (after_turn s.end) same) files moved
+      (timeout_unblamed (joined programs) kept.messages x.state o.viewed.unblamed) (file_same programs pad client x
+      moved turn files (λ c. still_open still) o.has) added (λ port to b c. subst (λ (t : Turn). (client.port ≡ port) ×
+      (t.reply ≡ Some (record { to = to; bytes = b }))) same (answered_sends client.port (timeout_turn s.end).reply
+      (Elapsed client.port s.now ∷ []) (elapsed_silent client.port s.now) port to b (subst (λ (es : List SocketEvent).
+      Contains es (Sent port to b)) (sym added_is) c)))
 
   -- ---- a step that leaves the end, and sends nothing
   pub rests : (s' : State) → s'.end ≡ s.end → (files' : Files G K) → HasFile programs pad client x files' moved →
       (now added : List SocketEvent) → AllByRecursion IsUnsent now → now ++ s.events ≡ added ++ s.events →
       Then_keeps s' files' added moved
   rests s' same files' has now added unsent events =
-      stays_keeps kept fresh c s' same files' moved has added (silent_by now added s.events refl events
-      (unsent_silent now unsent))
+      stays_keeps kept fresh c _ same _ _ has _ (silent_by _ _ _ refl events (unsent_silent _ unsent))
 
 module _ {S F D G K : Type 0} {stores : StoreMeaning S D} {sources : SourceMeaning F} {inputs : SourceMeaning G}
     {outputs : SinkMeaning K} {programs : Programs stores sources inputs outputs} {pad : ℕ} {old : Snapshot programs}

@@ -1,34 +1,28 @@
 -- Ports of which the server uses none twice are fresh: among them are those of its clients' transfers.
-use Rattle.tftp_promises.proofs.Common.{List, ℕ, ◌≡◌, rules, sym, Endpoint, refl, [], ◌∙◌, ap, SourceMeaning, Some}
-use Rattle.tftp_promises.proofs.Common.{subst, inl, StoreMeaning, inr, ◌∷◌, SinkMeaning, false, true, None, ◌++◌}
-use Rattle.tftp_promises.proofs.Common.{Programs, Bool, ◌⊎◌, Contains, SocketEvent, Option, LoopState, slice_get}
-use Rattle.tftp_promises.proofs.Common.{TransferState, LoopStep, joined, ClientOf, if◌then◌else◌, client_at, Snapshot}
-use Rattle.tftp_promises.proofs.Common.{same_Some, at, Run, suc, IsStranger, Then, Start, moved_in, Noted, zero}
-use Rattle.tftp_promises.proofs.Common.{Contains-push, IsPrefixOf, cases_eq, server_did, all_of, our_ports}
-use Rattle.tftp_promises.proofs.Common.{WasSentBefore, Has_asked, map, moved_at, AreJoined, Contains-append_cases}
-use Rattle.tftp_promises.proofs.Common.{Request_answered, Contains-append_left, set, ClientStage, Contains-append_right}
-use Rattle.tftp_promises.proofs.Common.{ArePortsFresh, is_ours, opened_ports, slice_get-map, CanTake}
-use Rattle.tftp_promises.proofs.Common.{slice_get-set_same, Unasked, client_did, option_to_list, AreDistinct}
-use Rattle.tftp_promises.proofs.Common.{client_moves, slice_get-set_other, just_asked, opened_by, Client_asks}
-use Rattle.tftp_promises.proofs.Common.{Server_does, Client_does, ours_by, All_begin, TracesAreJoint, Joint, option_map}
+use Rattle.std.proofs.Common.{rules as std_rules}
+use Rattle.tftp_promises.proofs.Common.{List, ℕ, ◌≡◌, rules, sym, Endpoint, refl, [], ◌∙◌, ap, SourceMeaning, Some, inl}
+use Rattle.tftp_promises.proofs.Common.{StoreMeaning, inr, ◌∷◌, SinkMeaning, false, true, None, ◌++◌, Programs, Bool}
+use Rattle.tftp_promises.proofs.Common.{◌⊎◌, Contains, SocketEvent, Option, LoopState, slice_get, TransferState}
+use Rattle.tftp_promises.proofs.Common.{LoopStep, joined, if◌then◌else◌, client_at, Snapshot, same_Some, at, Run, suc}
+use Rattle.tftp_promises.proofs.Common.{IsStranger, Then, Start, moved_in, Noted, zero, IsPrefixOf, cases_eq}
+use Rattle.tftp_promises.proofs.Common.{server_did, all_of, our_ports, WasSentBefore, Has_asked, map, moved_at}
+use Rattle.tftp_promises.proofs.Common.{AreJoined, Contains-append_cases, Request_answered, Contains-append_left, set}
+use Rattle.tftp_promises.proofs.Common.{ClientStage, Contains-append_right, ArePortsFresh, is_ours, opened_ports}
+use Rattle.tftp_promises.proofs.Common.{slice_get-map, CanTake, slice_get-set_same, Unasked, client_did, option_to_list}
+use Rattle.tftp_promises.proofs.Common.{AreDistinct, client_moves, slice_get-set_other, just_asked, opened_by}
+use Rattle.tftp_promises.proofs.Common.{Client_asks, Server_does, Client_does, ours_by, All_begin, TracesAreJoint}
+use Rattle.tftp_promises.proofs.Common.{Joint, option_map}
 use Rattle.tftp_rules.proofs.Refines.{shown_start}
 use Rattle.tftp_promises.specs.Openings.{DistinctPortsAreFresh}
 use Rattle.tftp_promises.specs.Snapshots.{nothing_done}
 use Rattle.tftp_promises.proofs.NewPlaces.{NoneTwice, none_twice, ours_among, below_above, not_again}
 use Rattle.tftp_promises.proofs.Places.{placed_by, places}
-use Rattle.tftp_promises.proofs.Invariant.{moved_by, IsFreshBy, IsToldAt, IsThere, HasTransferBy, StageKept, IsKept}
-use Rattle.tftp_promises.proofs.Invariant.{StandsAt}
+use Rattle.tftp_promises.proofs.Invariant.{moved_by, IsFreshBy, IsToldAt, IsThere, HasTransferBy, IsKept}
 use Rattle.tftp_promises.proofs.MovedSteps.{client_more, opens_none, server_more}
 use Rattle.tftp_promises.proofs.Texts.{begins_itself, begins_on}
-use Rattle.tftp_promises.proofs.Orders.{nothing_in}
+use Rattle.tftp_promises.proofs.Orders.{found_in, nothing_in}
 use Rattle.tftp_promises.proofs.KeptAsks.{asks_keeps}
 use Rattle.tftp_promises.proofs.KeptDoes.{does_keeps}
-
-found_in : (xs : List ℕ) (k x : ℕ) → slice_get xs k ≡ Some x → Contains xs x
-found_in [] k x e = absurd (let f : None ≡ Some x = e in cc)
-found_in (y ∷ ys) zero x e =
-    subst (λ (z : ℕ). Contains (y ∷ ys) z) (same_Some y x e) (Contains-append_left (y ∷ []) ys y (Contains-push [] y))
-found_in (y ∷ ys) (suc k) x e = Contains-append_right (y ∷ []) ys x (found_in ys k x e)
 
 distinct : (xs : List ℕ) → NoneTwice xs → AreDistinct xs
 distinct [] n j k port e f = absurd (let g : None ≡ Some port = e in cc)
@@ -138,8 +132,7 @@ module _ {S F D G K : Type 0} {stores : StoreMeaning S D} {sources : SourceMeani
       | inl same ↦
           let here : slice_get (set old.clients k stage) j ≡ Some stage = search (rules, slice_get-set_same) in
           let is : was ≡ its = same_Some was its (sym is_was ∙ (ap (slice_get old.clients) (sym same) ∙ at)) in
-          begins_on (moved_by its).bytes (moved_by stage).bytes (moved_in client.runs).bytes (rw (← is) more)
-          (h.gave j client stage found here)
+          begins_on _ _ _ (rw (← is) more) (h.gave j client stage found here)
       | inr n ↦ h.gave j client its found (slice_get-set_other old.clients k j stage n ∙ at)
     ];
   }
@@ -150,12 +143,7 @@ module _ {S F D G K : Type 0} {stores : StoreMeaning S D} {sources : SourceMeani
     ends = fresh;
     below = λ port i. below_above programs port i;
     told = λ a c. record { bytes = begins_itself (moved_at programs a programs.server.run).bytes; opened = refl };
-    gave = λ k client stage found at.
-        let last : ClientOf programs → ClientStage G K = λ (c : ClientOf programs).
-        Has_asked c.last c.files c.noted (moved_in c.runs) in
-        let is : last client ≡ stage = same_Some (last client) stage
-        (sym (slice_get-map last programs.clients k ∙ ap (option_map last) found) ∙ at) in
-        rw (← is) (begins_itself (moved_in client.runs).bytes);
+    gave = search (std_rules, moved_in, same_Some, slice_get-map, option_map, at, begins_itself);
   }
 
 -- The invariant holds before any program has done anything.
@@ -184,27 +172,15 @@ module _ {S F D G K : Type 0} {stores : StoreMeaning S D} {sources : SourceMeani
   no_transfer port transfer a (inl e) = nothing_held port transfer e.0
   no_transfer port transfer a (inr closed) = closed
 
-  nothing_stands : (g : Bool) (port : ℕ) (transfer : TransferState F D) (a : Endpoint) →
-      StandsAt (nothing_done programs) g port transfer a → ⊥
-  nothing_stands true port transfer a h = no_transfer port transfer a (inl h)
-  nothing_stands false port transfer a h = h
-
   pub kept_at_first : (pad : ℕ) → IsKept pad (nothing_done programs)
   kept_at_first pad = record {
     views = [];
     messages = [];
     shown = shown_start (joined programs);
     sent = nothing_sent;
-    server = record {
-      pending = λ from bytes e. absurd (let f : None ≡ Some (from, bytes) = sym programs.server.idle ∙ e in cc);
-      apart = λ g h p q t u a x y. absurd (nothing_stands g p t a x);
-      once = λ p q t u a b x y same. absurd (no_transfer p t a x);
-      opened = λ port transfer a h. absurd (no_transfer port transfer a h);
-    };
-    clients =
-        λ k client stage found e. subst (λ (s : ClientStage G K). StageKept programs pad [] [] client s) (unasked_at
-        programs.clients k stage e) tt;
-    transfers = λ port transfer a h. absurd (no_transfer port transfer a h);
+    server = search std_rules;
+    clients = search (std_rules, unasked_at);
+    transfers = λ port transfer a h. absurd (no_transfer _ _ a h);
     only = λ view among. absurd (let f : None ≡ Some view = among.1 in cc);
   }
 

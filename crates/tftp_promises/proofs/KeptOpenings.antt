@@ -56,8 +56,7 @@ module _ {S F D G K : Type 0} {stores : StoreMeaning S D} {sources : SourceMeani
       AreSent programs messages added
   one_sent messages own reply added is there port to bytes c =
       let s = answered_sends own (Some reply) [] none_silent port to bytes (rw (sym is) at c) in
-      rw (same_Some reply (record { to = to; bytes = bytes }) s.1) at (subst (λ (n : ℕ).
-      IsThere messages (endpoint programs.ip n) reply.to reply.bytes ⊎ IsStranger programs reply.to) s.0 there)
+      rw (same_Some reply (record { to = to; bytes = bytes }) s.1) at (rw (s.0) at there)
 
   -- if no transfer opens, all else is as it was, and nothing moves
   stays_so : option_to_list answers.left.opened.tid ≡ [] → new.pending ≡ None → ServerStays kept answered_step
@@ -85,18 +84,17 @@ module _ {S F D G K : Type 0} {stores : StoreMeaning S D} {sources : SourceMeani
       let reply : Reply = record { to = answers.from; bytes = error_bytes r.reply } in
       let m : Message = message (requests_at programs) answers.from Error in
       let one : Sent old.state.requests reply.to reply.bytes ∷ [] ≡ added =
-      append_cancel_right (Sent old.state.requests reply.to reply.bytes ∷ []) added old.state.events
-      (sym (ap (λ s. s.events) e) ∙ noted) in
+      append_cancel_right (Sent old.state.requests reply.to reply.bytes ∷ []) added old.state.events (sym (ap (λ s.
+      s.events) e) ∙ noted) in
       let said : IsThere (kept.messages ++ m ∷ []) (endpoint programs.ip programs.port) reply.to reply.bytes =
       (error_packet r.reply, spells_own (error_packet r.reply) (valid_error r.reply), Contains-push kept.messages m) in
       let there = subst (λ (n : ℕ). IsThere (kept.messages ++ m ∷ []) (endpoint programs.ip n) reply.to reply.bytes)
       (sym (requests_stay programs old.run)) said in
       let opens = ap (λ (l : Left S F D). option_to_list l.opened.tid) (left_is _ r.is) in
-      let shown = says_error (joined programs) kept.shown.0 kept.views kept.messages kept.shown.1
-      (requests_at programs) answers.from in
-      says_keeps kept answered_step (stays_so opens (ap (λ s. s.pending) e)) (moves_none opens)
-      (ap (λ s. s.server.held) e) added (m ∷ []) (kept.shown.0 ++ shown.0, shown.2)
-      (one_sent (kept.messages ++ m ∷ []) old.state.requests reply added one (inl there))
+      let shown = says_error (joined programs) kept.shown.0 kept.views kept.messages kept.shown.1 (requests_at programs)
+      answers.from in
+      says_keeps kept answered_step (stays_so opens (ap (λ s. s.pending) e)) (moves_none opens) (ap (λ s. s.server.held)
+      e) added (m ∷ []) (kept.shown.0 ++ shown.0, shown.2) (one_sent _ _ _ _ one (inl there))
 
 -- A transfer that a request opens keeps the invariant.
 
@@ -275,9 +273,10 @@ module _ {S F D G K : Type 0} {stores : StoreMeaning S D} {sources : SourceMeani
 
       pub opening_keeps : IsKept pad now
       opening_keeps =
-          seat_keeps kept does added true tid transfer a
-          (ap (at tid) held_is ∙ lookup-insert_same numbers tid transfer server.held, sym place_now) from onto its_place
-          (λ k client found same. client_apart programs now fresh a its_place k client found same) beside turns
-          (one_sent kept answers messages tid (record { to = answers.from; bytes = x.state.position.last_sent }) added
-          one (first_by seat)) (λ from bytes e. absurd (let f : None ≡ Some (from, bytes) =
-          sym (ap (λ (s : LoopState S F D). s.pending) state_is) ∙ e in cc)) own
+          seat_keeps kept does added true tid transfer a (
+            ap (at tid) held_is ∙ lookup-insert_same numbers tid transfer
+                server.held,
+            sym place_now,
+          ) from onto its_place (λ k client found same. client_apart _ _ fresh a its_place k _
+          found same) beside turns (one_sent kept answers _ _ _ _ one (first_by seat)) (λ from bytes e. absurd (let f =
+          sym (ap (λ s. s.pending) state_is) ∙ e in cc)) own

@@ -1,4 +1,5 @@
 -- A step of the server at the port of a transfer keeps the invariant, if it does of the transfer's own end.
+use Rattle.std.proofs.Common.{rules as std_rules}
 use Rattle.tftp_promises.proofs.Common.{rules, List, ℕ, ◌≡◌, sym, Endpoint, refl, ◌∙◌, ap, SourceMeaning, Some, subst}
 use Rattle.tftp_promises.proofs.Common.{inl, StoreMeaning, inr, SinkMeaning, false, ◌++◌, Programs, ◌⊎◌, Contains}
 use Rattle.tftp_promises.proofs.Common.{SocketEvent, ◌≢◌, LoopState, slice_get, TransferState, LoopStep, joined}
@@ -6,15 +7,15 @@ use Rattle.tftp_promises.proofs.Common.{OpenEnd, endpoint, Snapshot, at, Turn, I
 use Rattle.tftp_promises.proofs.Common.{Reply, is_client, server_did, place_at, with_next, IsUnblamed}
 use Rattle.tftp_promises.proofs.Common.{slice_get-set_same, numbers, Goes, unblamed_still, lookup-set_same}
 use Rattle.tftp_promises.proofs.Common.{lookup-set_other, Bool, true, true≢false, [], Contains-append_right}
-use Rattle.tftp_promises.proofs.Common.{Transfer_closed, same_Some, ClientOf, client_at, None, Option, without}
-use Rattle.tftp_promises.proofs.Common.{lookup-remove_other}
+use Rattle.tftp_promises.proofs.Common.{Transfer_closed, ClientOf, client_at, None, Option, without}
+use Rattle.tftp_promises.proofs.Common.{lookup-remove_other, IsSome}
 use Rattle.tftp_promises.proofs.Places.{placed_by, places}
 use Rattle.tftp_promises.proofs.Identifiers.{at-with_next_cases, at-without_cases}
 use Rattle.tftp_promises.proofs.Invariant.{IsThere, HasStored, TransferKept, StandsAt, IsKept, IsFreshBy, IsStrangers}
 use Rattle.tftp_promises.proofs.Invariant.{SendsText, named_still, same_transfer}
 use Rattle.tftp_promises.proofs.KeptServer.{AreSent, ServerStays, seat_keeps, stored_after}
 use Rattle.tftp_promises.proofs.KeptViews.{TurnsHere, quiet, there_still, turned, viewed_still}
-use Rattle.tftp_promises.proofs.TransferLives.{keyed_once}
+use Rattle.tftp_promises.proofs.OneTimerEach.{keyed_once}
 use Rattle.tftp_ends.specs.declared.record.Record.{Record}
 use Rattle.tftp_loop.specs.Steps.{Closes}
 use Rattle.tftp_server.specs.State.{taken_of}
@@ -158,30 +159,26 @@ module _ {S F D G K : Type 0} {stores : StoreMeaning S D} {sources : SourceMeani
       pub turn_keeps : IsKept pad now
       turn_keeps =
           port_keeps none (turned place was.viewed.index (open_view was.end) end was.viewed.viewed was.address
-          (becomes.address ∙ was.address) goes.said_now (kept.shown.0 ++ goes.shown.0, goes.shown.2))
-          (λ own to bytes c. let h = sends own to bytes c in
-          subst (λ (p : ℕ). SentBy p to bytes) h.0 (sent_by to bytes h.1 becomes.seated)) (record {
-            end = end;
-            address = becomes.address ∙ was.address;
-            seat = seat_now becomes.seated;
-            state = becomes.state;
-            path = becomes.path ∙ (was.path ∙ sym path);
-            request = becomes.request ∙ (was.request ∙ sym request);
-            named = named_still path request was.named;
-            side = ap is_client goes.side ∙ was.side;
-            viewed = record {
-              kept = goes.kept;
-              index = was.viewed.index;
-              viewed =
-                  slice_get-set_same kept.views was.viewed.index (open_view end) (open_view was.end) was.viewed.viewed;
-              last_sent =
-                  subst (λ (a : Endpoint). IsThere messages a end.state.position.last_sent_to
-                  end.state.position.last_sent) (sym becomes.address) (newest_there kept.messages goes.said_now was.end end
-                  turn goes.replies goes.last_sent was.viewed.last_sent);
-              unblamed = unblamed_still (joined programs) kept.messages goes.said_now end.state becomes.unblamed;
-            };
-            has = becomes.has;
-          })
+          (becomes.address ∙ was.address) goes.said_now (kept.shown.0 ++ goes.shown.0, goes.shown.2)) (λ own to bytes c.
+          let h = sends own to bytes c in
+          subst (λ (p : ℕ). SentBy p to bytes) h.0 (sent_by to bytes h.1 becomes.seated)) (search (
+            becomes.address ∙
+                was.address,
+            seat_now becomes.seated,
+            becomes.path ∙ (was.path ∙ sym path),
+            becomes.request ∙
+                (was.request ∙ sym request),
+            named_still path request was.named,
+            ap is_client goes.side ∙ was.side,
+            slice_get-set_same kept.views was.viewed.index (open_view end) (open_view was.end)
+                was.viewed.viewed,
+            subst (λ (a : Endpoint). IsThere messages a
+                end.state.position.last_sent_to end.state.position.last_sent) (sym becomes.address)
+                (newest_there kept.messages goes.said_now was.end end turn goes.replies
+                goes.last_sent was.viewed.last_sent),
+            unblamed_still (joined programs)
+                kept.messages goes.said_now end.state becomes.unblamed,
+          ))
 
 -- A transfer that the server removes keeps the invariant: its end stays among the views.
 
@@ -221,11 +218,10 @@ module _ {S F D G K : Type 0} {stores : StoreMeaning S D} {sources : SourceMeani
       ((g ≡ false) × (q ≡ its_port) × (u ≡ taken.0) × (a ≡ its_place)) ⊎ ((its_place ≢ a) × StandsAt old g q u a)
   from_closed true q u a h =
       let once = keyed_once stores sources old.run programs.server.empty in
-      let e = at-without_cases its_port q u old.state.server.held once (ap (at q) (sym left) ∙ h.0) in
+      let there : IsSome (at its_port old.state.server.held) = rw taken.1 refl in
+      let e = at-without_cases its_port q u old.state.server.held once there (ap (at q) (sym left) ∙ h.0) in
       inr (away kept fresh its_port taken.0 taken.1 true q u a (e.1, h.1) (λ _. e.0), (e.1, h.1))
-  from_closed false q u a (inl h) =
-      let there = ap (λ (p : ℕ). at p old.state.server.held) (sym h.0.0) ∙ h.0.1 in
-      inl (refl, h.0.0, same_Some u taken.0 (sym there ∙ taken.1), h.1 ∙ ap (λ (p : ℕ). place_at programs p old.run) h.0.0)
+  from_closed false q u a (inl h) = search std_rules
   from_closed false q u a (inr h) = inr (gone kept fresh its_port taken.0 taken.1 q u a h, h)
 
   onto_closed : (g : Bool) (q : ℕ) (u : TransferState F D) (a : Endpoint) → StandsAt old g q u a →

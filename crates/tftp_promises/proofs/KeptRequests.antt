@@ -1,27 +1,23 @@
 -- The end of the server that a request opens: its side, its peer, and the text that it sends first.
 use Rattle.tftp_promises.proofs.Common.{List, ℕ, ◌≡◌, rules, sym, Endpoint, refl, [], ◌∙◌, ap, SourceMeaning, Some}
 use Rattle.tftp_promises.proofs.Common.{subst, inl, StoreMeaning, ◌∷◌, SinkMeaning, false, true, None, ◌++◌, Programs}
-use Rattle.tftp_promises.proofs.Common.{Bool, EndState, Contains, SocketEvent, Option, true≢false, arith, LoopState}
-use Rattle.tftp_promises.proofs.Common.{length, TransferState, joined, outcome_of, OpenEnd, is_sender, Snapshot, Moved}
-use Rattle.tftp_promises.proofs.Common.{Mode, Sink, Source, ServerState, Spells, WirePacket, ◌≤◌, IsPrefixOf, ◌<◌}
-use Rattle.tftp_promises.proofs.Common.{server_did, message, IsBlockSize, moved_at, peer_of, opened_at}
-use Rattle.tftp_promises.proofs.Common.{Request_answered, WireRequest, Known, ◌*◌, Config, AnswersRequest, GaveSince}
-use Rattle.tftp_promises.proofs.Common.{requested, opened_ports, serving_read, RawOption, place, size, block_length}
-use Rattle.tftp_promises.proofs.Common.{DEFAULT_BLOCK, take, serving_write, Decodes, drop, TakesInTurn, first_moved}
-use Rattle.tftp_promises.proofs.Common.{block}
-use Rattle.std.proofs.Common.{min}
+use Rattle.tftp_promises.proofs.Common.{Bool, EndState, SocketEvent, true≢false, arith, LoopState, length}
+use Rattle.tftp_promises.proofs.Common.{TransferState, joined, outcome_of, OpenEnd, is_sender, Snapshot, Moved, Mode}
+use Rattle.tftp_promises.proofs.Common.{Sink, Source, ServerState, ◌≤◌, IsPrefixOf, server_did, IsBlockSize, moved_at}
+use Rattle.tftp_promises.proofs.Common.{peer_of, opened_at, Request_answered, WireRequest, Known, Config}
+use Rattle.tftp_promises.proofs.Common.{AnswersRequest, requested, opened_ports, serving_read, RawOption, place}
+use Rattle.tftp_promises.proofs.Common.{DEFAULT_BLOCK, take, serving_write, drop, first_moved, block}
+use Rattle.std.proofs.Common.{rules as std_rules}
 use Rattle.std.proofs.lemmas.List.{take_min, drop_min}
 use Rattle.tftp_rules.specs.EndOpens.{left_at_first, sending, IsNewly, new_receiver, new_sender}
 use Rattle.tftp_rules.proofs.FirstSent.{first_want}
 use Rattle.tftp_store.specs.Drafts.{Took_nothing}
-use Rattle.tftp_rules.specs.Machine.{Packet}
 use Rattle.tftp_rules.proofs.EndOpenings.{opens_to_send, opens_to_store}
-use Rattle.tftp_promises.proofs.Requested.{IsFirst, Begins_to_send, Begins_to_store, IsBegunBy, IsOpenedBy, OpensToSend}
-use Rattle.tftp_promises.proofs.Requested.{OpensToStore, PortAnswers, Says_error, Silent, port_answers, IsAsked}
+use Rattle.tftp_promises.proofs.Requested.{IsFirst, Begins_to_send, Begins_to_store, OpensToSend, OpensToStore}
+use Rattle.tftp_promises.proofs.Requested.{PortAnswers, Says_error, Silent, port_answers, IsAsked}
 use Rattle.tftp_promises.proofs.Texts.{begins_by_take, then_rest, begins_padded, pad_length}
 use Rattle.tftp_promises.proofs.MovedSends.{gave_first}
-use Rattle.tftp_promises.proofs.Invariant.{GaveSo, IsFreshBy, IsKept, IsNamed, IsGiven, IsTaken, TookSo, length_of}
-use Rattle.tftp_promises.proofs.Invariant.{place_text}
+use Rattle.tftp_promises.proofs.Invariant.{GaveSo, IsFreshBy, IsKept, IsNamed, IsGiven, IsTaken, length_of, place_text}
 use Rattle.tftp_promises.proofs.KeptAsks.{says_request}
 use Rattle.tftp_promises.proofs.KeptOpenings.{at_server, its_place, moved_here, none_there, opened_here, opening_keeps}
 use Rattle.tftp_promises.proofs.KeptOpenings.{refusal_keeps, silent_keeps}
@@ -60,23 +56,18 @@ first_of_text : (agreed : List Known) (peer : Endpoint) (mode : Mode) (measured 
     × IsPrefixOf (first_moved (serving_read agreed peer mode measured retries piece)).bytes text
     × ((first_moved (serving_read agreed peer mode measured retries piece)).bytes ++ left_at_first agreed text ≡ text)
 first_of_text [] peer mode measured retries piece text first long begins =
-    let want : block_length measured DEFAULT_BLOCK 1 ≡ min DEFAULT_BLOCK (length text) =
-    first_want measured (length text) (sym long) in
+    let want = first_want measured (length text) (sym long) in
     let short : length piece ≤ measured = omega (arith, first, want, long) in
-    let b : IsPrefixOf piece text = begins short in
-    let is : piece ≡ block text DEFAULT_BLOCK 1 =
-    sym (begins_by_take piece text b) ∙ (ap (λ (n : ℕ). take n text) (first ∙ want) ∙ take_min DEFAULT_BLOCK text) in (
-      ap (λ (n : ℕ). serving_read [] peer mode n retries piece) (sym long)
-          ∙ ap (λ (p : List ℕ). serving_read [] peer mode (length text) retries p) is,
+    let b = begins short in
+    let is =
+    sym (begins_by_take _ _ b) ∙ (ap (λ (n : ℕ). take n text) (first ∙ want) ∙ take_min DEFAULT_BLOCK text) in (
+      ap (λ (n : ℕ). serving_read [] peer mode n retries piece) (sym long) ∙ ap (λ (p : List ℕ). serving_read [] peer
+          mode (length text) retries p) is,
       b,
-      ap (λ (ts : List ℕ). piece ++ ts) (sym (drop_min DEFAULT_BLOCK text) ∙ ap (λ (n : ℕ). drop n text)
-          (sym (first ∙ want))) ∙ then_rest piece text b,
+      ap (λ (ts : List ℕ). piece ++ ts) (sym (drop_min DEFAULT_BLOCK text) ∙ ap (λ (n : ℕ). drop n text) (sym (first ∙
+          want))) ∙ then_rest _ _ b,
     )
-first_of_text (known ∷ agreed) peer mode measured retries piece text first long begins = (
-  ap (λ (n : ℕ). serving_read (known ∷ agreed) peer mode n retries piece) (sym long),
-  (text, refl),
-  refl,
-)
+first_of_text (known ∷ agreed) peer mode measured retries piece text first long begins = search std_rules
 
 -- A request that the request port answers keeps the invariant.
 
@@ -102,14 +93,11 @@ module _ {S F D G K : Type 0} {stores : StoreMeaning S D} {sources : SourceMeani
       IsNewly (joined programs) kept.views kept.messages answers.from answers.bytes write asked.request
   newly write path mode options asked =
       let packet = requested write asked.request in
-      let spells : Spells packet answers.bytes =
-      subst (λ (d : Option WirePacket). Decodes answers.bytes d) asked.packet answers.steps.says in
+      let spells = rw (asked.packet) at answers.steps.says in
       let come = kept.server.pending answers.from answers.bytes answers.pending in
       search (
-        subst (λ (p : Packet). Contains kept.messages (message answers.from (joined programs).request_port p))
-            (says_request write asked.request) (come packet spells),
-        none_answers kept answers.from packet
-            answers.steps.repeated answers.steps.decoded answers.steps.repeats asked.packet asked.new,
+        rw (says_request write asked.request) at (come packet spells),
+        none_answers kept _ _ _ _ answers.steps.repeats asked.packet asked.new,
       )
 
   -- and it is for this path
@@ -139,43 +127,35 @@ module _ {S F D G K : Type 0} {stores : StoreMeaning S D} {sources : SourceMeani
     sending_keeps : IsKept pad now
     sending_keeps =
         let text = place_text programs pad a in
-        let told = fresh.told a (its_place kept answers added noted fresh sent server.store o.is) in
-        let its_opening = opened_here kept answers added noted fresh sent server.store o.is in
-        let moved = moved_here kept answers added noted fresh sent server.store o.is in
+        let told = fresh.told a (its_place kept _ _ noted fresh _ _ o.is) in
+        let its_opening = opened_here kept _ _ noted fresh _ _ o.is in
+        let moved = moved_here kept _ _ noted fresh _ _ o.is in
         let long_so = read_length o.agreed answers.from r.mode o.measured server.config.retries o.piece in
         let long = ap length_of (sym told.opened) ∙ (ap length_of its_opening ∙ long_so) in
         let measured =
         pad_length pad (length_of (opened_at programs a programs.server.run)) (moved_at programs a
         programs.server.run).bytes ∙ long in
         let all : List ℕ = (moved_at programs a programs.server.run).bytes in
-        let begins = subst (λ (m : Moved). IsPrefixOf m.bytes all) moved told.bytes in
+        let begins = rw (moved) at told.bytes in
         let f =
-        first_of_text o.agreed answers.from r.mode o.measured server.config.retries o.piece text o.first measured
-        (λ short. begins_padded pad (length_of (opened_at programs a programs.server.run)) (first_moved sent.end).bytes
-        all begins (subst (λ (n : ℕ). length (first_moved sent.end).bytes ≤ n) (sym long) short)) in
+        first_of_text _ _ _ _ _ _ _ o.first measured (λ short. begins_padded pad _ _ _ begins (rw (long) short)) in
         let x = new_sender a answers.bytes o.agreed answers.from r.mode path [] text server.config.retries in
         let opens =
         read_opens o.agreed answers.from r.mode (length text) server.config.retries (block text DEFAULT_BLOCK 1) in
         let gave = subst (λ (m : Moved). GaveSo x m) (sym moved) (record { prefix = f.1; left = λ _. f.2 }) in
-        let opened = subst (λ (m : Mode). IsOpenedBy stores sources server answers.from answers.bytes path m
-        answers.steps.came o.opening) (sym opens.mode) o.opened in
+        let opened = rw (sym opens.mode) at o.opened in
         let given : IsGiven programs now.run o.rest x (moved_at programs a now.run) = record {
           opening = o.opening;
           first = inl (refl, opened.0, opened.1, opened.2);
           long = ap (λ (e : EndState). e.role.length) (sym f.0) ∙ (long_so ∙ o.long);
-          since = subst (λ (m : Moved). GaveSince sources o.opening.source x.state m.bytes o.rest) (sym moved)
-              (gave_first o.gave);
+          since = rw (moved) (gave_first o.gave);
         } in
-        opening_keeps kept answers added noted fresh sent server.store o.is x refl opens.peer (sym f.0) refl refl
-        (named false path mode options asked) opens.still
-        (opens_to_send (joined programs) kept.shown.0 kept.views kept.messages a answers.from answers.bytes r path []
-        text o.agreed server.config.retries kept.shown.1
-        (at_server kept answers added noted fresh sent server.store o.is)
-        (none_there kept answers added noted fresh sent server.store o.is)
-        (newly false path mode options asked) o.granted
-        (subst (λ (n : ℕ). n < 65535 * size o.agreed) (sym measured) o.fits)) (record {
-          opened =
-              record { opening = sent; opened = its_opening; path = refl; role = ap (λ (e : EndState). e.role) f.0 };
+        opening_keeps kept answers added noted fresh sent server.store o.is x refl opens.peer (sym f.0) refl refl (named
+        _ _ _ _ asked) opens.still (opens_to_send (joined programs) kept.shown.0 kept.views kept.messages a answers.from
+        answers.bytes r path [] text o.agreed server.config.retries kept.shown.1 (at_server kept _ _ noted fresh _ _
+        o.is) (none_there kept _ _ noted fresh _ _ o.is) (newly _ _ _ _ asked) o.granted (rw (measured) o.fits))
+        (record {
+          opened = search (ap (λ (e : EndState). e.role) f.0);
           text = λ _. refl;
           file = (opens.side, gave, given);
         })
@@ -200,56 +180,35 @@ module _ {S F D G K : Type 0} {stores : StoreMeaning S D} {sources : SourceMeani
 
     storing_keeps : IsKept pad now
     storing_keeps =
-        let moved = moved_here kept answers added noted fresh stored_by o.store o.is in
-        let none : (first_moved stored_by.end).bytes ≡ [] =
-        write_moves_none o.agreed answers.from asked.request.mode server.config.retries in
+        let moved = moved_here kept _ _ noted fresh _ _ o.is in
+        let none = write_moves_none o.agreed answers.from asked.request.mode server.config.retries in
         let opens = write_opens o.agreed answers.from asked.request.mode server.config.retries in
-        let begun = subst (λ (m : Mode). IsBegunBy stores sources server answers.from answers.bytes path m
-        answers.steps.came o.draft) (sym opens.mode) o.begun in
+        let begun = rw (sym opens.mode) at o.begun in
         let taken : IsTaken programs now.run o.draft receiver (moved_at programs a now.run) = record {
           first = o.draft;
-          began = inl (refl, ap (λ (c : Config). c.overwrite) (run_config stores sources old.run), begun.0, begun.1, begun.2);
+          began = inl (refl, ap (λ (c : Config). c.overwrite) (run_config _ _ old.run), begun.0, begun.1, begun.2);
           since = record {
-            going =
-                λ _ _. subst (λ (bs : List ℕ). TakesInTurn stores o.draft bs o.draft) (sym (ap (λ (m : Moved). m.bytes)
-                moved ∙ none)) Took_nothing;
+            going = λ _ _. (rw ((ap (λ (m : Moved). m.bytes) moved ∙ none)) Took_nothing);
             done = λ c. absurd (true≢false (sym c));
           };
         } in
         opening_keeps kept answers added noted fresh stored_by o.store o.is receiver refl opens.peer refl refl refl
-        (named true path mode options asked) opens.still
-        (opens_to_store (joined programs) kept.shown.0 kept.views kept.messages a answers.from answers.bytes
-        asked.request path o.agreed server.config.retries kept.shown.1
-        (at_server kept answers added noted fresh stored_by o.store o.is)
-        (none_there kept answers added noted fresh stored_by o.store o.is)
-        (newly true path mode options asked) o.granted) (record {
-          opened = record {
-            opening = stored_by;
-            opened = opened_here kept answers added noted fresh stored_by o.store o.is;
-            path = refl;
-            role = refl;
-          };
+        (named _ _ _ _ asked) opens.still (opens_to_store (joined programs) kept.shown.0 kept.views kept.messages a
+        answers.from answers.bytes asked.request path o.agreed server.config.retries kept.shown.1 (at_server kept _ _
+        noted fresh _ _ o.is) (none_there kept _ _ noted fresh _ _ o.is) (newly _ _ _ _ asked) o.granted) (record {
+          opened = search (opened_here kept answers added noted fresh stored_by o.store o.is);
           text = λ s. absurd (true≢false (sym s ∙ opens.side));
-          file = (
-            opens.side,
-            subst (λ (m : Moved). TookSo receiver m) (sym moved)
-                (record { stored = sym none; committed = λ c. absurd (true≢false (sym c)); refuses = refl }),
-            taken,
-          );
+          file = search std_rules;
         })
 
   -- ---- the answer
   kept_by : PortAnswers stores sources server answers.from answers.bytes answers.steps.decoded answers.steps.repeated answers.steps.came → IsKept pad now
-  kept_by (Silent is why) = silent_keeps kept answers added noted is
-  kept_by (Says_error r) = refusal_keeps kept answers added noted r
+  kept_by (Silent is why) = silent_keeps kept _ _ noted is
+  kept_by (Says_error r) = refusal_keeps kept _ _ noted r
   kept_by (Begins_to_send path mode options asked opens) =
-      sending_keeps path mode options asked
-      (subst (λ (m : Mode). OpensToSend stores sources server answers.from answers.bytes path m
-      options answers.steps.came) (sym asked.same_mode) opens)
+      sending_keeps path mode options asked (rw (asked.same_mode) opens)
   kept_by (Begins_to_store path mode options asked opens) =
-      storing_keeps path mode options asked
-      (subst (λ (m : Mode). OpensToStore stores sources server answers.from answers.bytes path m
-      options answers.steps.came) (sym asked.same_mode) opens)
+      storing_keeps path mode options asked (rw (asked.same_mode) opens)
 
   max_block : IsBlockSize server.config.limits.max_block
   max_block = subst (λ (c : Config). IsBlockSize c.limits.max_block) (sym (run_config stores sources old.run)) programs.server.max_block

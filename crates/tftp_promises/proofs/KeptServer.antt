@@ -1,4 +1,5 @@
 -- A step of the server keeps the invariant, if it does of the transfers and of what was said.
+use Rattle.std.proofs.Common.{rules as std_rules}
 use Rattle.tftp_promises.proofs.Common.{List, ℕ, ◌≡◌, rules, sym, Endpoint, [], ◌∙◌, ap, SourceMeaning, Some, subst}
 use Rattle.tftp_promises.proofs.Common.{inl, StoreMeaning, inr, SinkMeaning, ◌++◌, Programs, ◌⊎◌, Contains, Files}
 use Rattle.tftp_promises.proofs.Common.{SocketEvent, Option, LoopState, slice_get, TransferState, LoopStep, Sent}
@@ -10,7 +11,6 @@ use Rattle.tftp_promises.proofs.Common.{Contains-append_right}
 use Rattle.tftp_promises.proofs.Invariant.{IsThere, HasTransferBy, TransferKept, IsOfClient, IsOfTransfer, IsKept}
 use Rattle.tftp_promises.proofs.Invariant.{IsGiven, FileSo, AreApart, HasStored, IsTaken, StandsAt, apart_once}
 use Rattle.tftp_promises.proofs.Invariant.{same_transfer}
-use Rattle.tftp_promises.proofs.MovedStores.{took_longer}
 use Rattle.tftp_promises.proofs.KeptViews.{HasCome, TurnsHere, arrived_still, rests, sent_still, stage_still}
 use Rattle.tftp_promises.proofs.KeptViews.{viewed_still}
 use Rattle.tftp_promises.proofs.Places.{placed_by, places}
@@ -28,8 +28,7 @@ AreSent programs messages added =
 -- a step sent nothing, if it noted these events, of which none was sent
 pub silent_by : (noted added rest : List SocketEvent) {events : List SocketEvent} → events ≡ noted ++ rest →
     events ≡ added ++ rest → IsSilent noted → IsSilent added
-silent_by noted added rest is added_is silent =
-    subst (λ (es : List SocketEvent). IsSilent es) (append_cancel_right noted added rest (sym is ∙ added_is)) silent
+silent_by noted added rest is added_is silent = rw (← append_cancel_right noted added rest (sym is ∙ added_is)) silent
 
 module _ {S F D G K : Type 0} {stores : StoreMeaning S D} {sources : SourceMeaning F} {inputs : SourceMeaning G}
     {outputs : SinkMeaning K} (programs : Programs stores sources inputs outputs) where
@@ -43,11 +42,7 @@ module _ {S F D G K : Type 0} {stores : StoreMeaning S D} {sources : SourceMeani
     h.1,
     record { opening = h.2.opening; first = inr h.2.first; long = h.2.long; since = h.2.since },
   )
-  file_later run does x moved (Sink draft) h = (
-    h.0,
-    h.1,
-    record { first = h.2.first; began = inr h.2.began; since = took_longer (λ store been. inr been) h.2.since },
-  )
+  file_later run does x moved (Sink draft) h = search std_rules
 
 module _ {S F D G K : Type 0} {stores : StoreMeaning S D} {sources : SourceMeaning F} {inputs : SourceMeaning G}
     {outputs : SinkMeaning K} {programs : Programs stores sources inputs outputs} where
@@ -56,20 +51,13 @@ module _ {S F D G K : Type 0} {stores : StoreMeaning S D} {sources : SourceMeani
       (does : LoopStep stores sources old.state new) (added : List SocketEvent) (x : OpenEnd) →
       MovesNone programs old.run does x.address → (files : Files F D) → HasStored pad old x files →
       HasStored pad (server_did old does added) x files
-  stored_after pad old does added x none files h = record {
-    opened = record {
-      opening = h.opened.opening;
-      opened =
-          ap (λ (o : Option (TransferState F D)). or_before o (opened_at programs x.address old.run)) none.opens
-          ∙ h.opened.opened;
-      path = h.opened.path;
-      role = h.opened.role;
-    };
-    text = h.text;
-    file =
-        subst (λ (m : Moved). FileSo (IsGiven programs (Then old.run does)) (IsTaken programs (Then old.run does)) files
-        x m) (sym (none.moves (moved_at programs x.address old.run))) (file_later programs old.run does x _ files h.file);
-  }
+  stored_after pad old does added x none files h =
+      search (
+        ap (λ (o : Option (TransferState F D)). or_before o (opened_at programs x.address old.run)) none.opens ∙ h.opened.opened,
+        subst (λ (m : Moved). FileSo (IsGiven programs (Then old.run does)) (IsTaken programs (Then old.run does))
+            files x m) (sym (none.moves (moved_at programs x.address old.run))) (file_later programs old.run does x _
+            files h.file),
+      )
 
 module _ {S F D G K : Type 0} {stores : StoreMeaning S D} {sources : SourceMeaning F} {inputs : SourceMeaning G}
     {outputs : SinkMeaning K} {programs : Programs stores sources inputs outputs} {pad : ℕ}
@@ -113,12 +101,7 @@ module _ {S F D G K : Type 0} {stores : StoreMeaning S D} {sources : SourceMeani
       messages = messages;
       shown = turns.shown;
       sent = all_sent;
-      server = record {
-        pending = λ from bytes e. arrived_still kept.messages turns.said_now (pending from bytes e);
-        apart = apart;
-        once = apart_once then apart;
-        opened = known;
-      };
+      server = search (std_rules, arrived_still, apart, apart_once);
       clients = λ k client stage found is.
           stage_still turns.said_now client stage (λ z here h.
           turns.others z (λ at. no_client k client found (rw (← here) at)) h) (kept.clients k client stage found is);
@@ -139,16 +122,7 @@ module _ {S F D G K : Type 0} {stores : StoreMeaning S D} {sources : SourceMeani
       (sends : AreSent programs (kept.messages ++ turns.said_now) added) (pending : HasCome kept new.pending)
       (own : TransferKept pad turns.next (kept.messages ++ turns.said_now) then port transfer place) where
     apart : AreApart then
-    apart h k p q t u a x y = elim (from h p t a x) [
-      | inl e ↦ elim (from k q u a y) [
-        | inl f ↦ (e.0 ∙ sym f.0, e.1 ∙ sym f.1, e.2 ∙ sym f.2)
-        | inr f ↦ absurd (f.0 (sym e.3))
-      ]
-      | inr e ↦ elim (from k q u a y) [
-        | inl f ↦ absurd (e.0 (sym f.3))
-        | inr f ↦ kept.server.apart h k p q t u a e.1 f.1
-      ]
-    ]
+    apart h k p q t u a x y = search std_rules
 
     -- of each transfer
     of_each : (P : ℕ → TransferState F D → Endpoint → Type 0) → P port transfer place →
@@ -188,11 +162,9 @@ module _ {S F D G K : Type 0} {stores : StoreMeaning S D} {sources : SourceMeani
 
     pub seat_keeps : IsKept pad then
     seat_keeps =
-        server_keeps turns sends pending (λ k client found same. no_client k client found (sym same)) apart
-        (of_each (λ (q : ℕ) (u : TransferState F D) (a : Endpoint). Contains (places programs then.run) a) known
-        (λ q u a n is. Contains-append_right (placed_by programs old.run does) (places programs old.run) a
-        (kept.server.opened q u a is))) (of_each (λ (q : ℕ) (u : TransferState F D) (a : Endpoint).
-        TransferKept pad turns.next (kept.messages ++ turns.said_now) then q u a) own other) there
+        server_keeps turns sends pending (λ k client found same. no_client k client found (sym same)) apart (of_each _
+        known (λ q u a n is. Contains-append_right (placed_by programs old.run does) (places programs old.run) a
+        (kept.server.opened q u a is))) (of_each _ own other) there
 
 -- A step of the server that changes no transfer keeps the invariant, if what it sends is shown.
 
@@ -224,8 +196,7 @@ module _ {S F D G K : Type 0} {stores : StoreMeaning S D} {sources : SourceMeani
     held_after port transfer a h3 = search rules
 
     still_there : (a : Endpoint) → IsOfTransfer old a ⊎ ⊥ → IsOfTransfer now a
-    still_there a (inl h) =
-        record { port = h.port; transfer = h.transfer; is_transfer = held_after h.port h.transfer a h.is_transfer }
+    still_there a (inl h) = search (std_rules, held_after)
     still_there a (inr none) = absurd none
 
     pub says_keeps : (said_now : List Message) → IsShown (joined programs) kept.views (kept.messages ++ said_now) →

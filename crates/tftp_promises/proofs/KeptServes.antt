@@ -90,14 +90,11 @@ module _ {S F D G K : Type 0} {stores : StoreMeaning S D} {sources : SourceMeani
           WasSentBefore old h.from (endpoint programs.ip port) h.bytes ⊎ MayCome programs h.from h.bytes →
           place ≡ endpoint programs.ip port → Keeps
       here_keeps h is came here =
-          let known =
-          kept.server.opened port h.handles.takes.transfer place (inl (h.handles.takes.found, refl)) in
+          let known = kept.server.opened port h.handles.takes.transfer place (inl (h.handles.takes.found, refl)) in
           let there = sym (ap (joined programs).host_of here) ∙ at_server programs old old_fresh place known in
-          let a =
-          arrives kept h.from (endpoint programs.ip port) h.bytes
-          (stranger_no_port programs (endpoint programs.ip port) there) came in
-          datagram_keeps a.now old_fresh serves added events h is fresh_now
-          (subst (λ (e : Endpoint). HasArrived a.now.messages h.from e h.bytes) (sym here) a.come) a.spelled (inl here)
+          let a = arrives kept _ _ _ (stranger_no_port programs (endpoint programs.ip port) there) came in
+          datagram_keeps a.now old_fresh serves added events h is fresh_now (subst (λ (e : Endpoint). HasArrived
+          a.now.messages h.from e h.bytes) (sym here) a.come) a.spelled (inl here)
 
       strange_keeps : (h : Handles) → serves.does ≡ A_datagram h → IsStranger programs h.from → Keeps
       strange_keeps h is strange =
@@ -156,29 +153,29 @@ module _ {S F D G K : Type 0} {stores : StoreMeaning S D} {sources : SourceMeani
 
   -- each step of the server keeps the invariant
   pub server_steps_keep : ServerStepsKeep programs pad
-  server_steps_keep old new (At_port serves) added kept fresh events take =
-      port_keeps old new kept added events take serves fresh
+  server_steps_keep old new (At_port serves) added kept fresh events take = port_keeps _ _ kept _ events take _ fresh
   server_steps_keep old new (Request_received h) added kept fresh events take =
       let first = first_in programs.port (our_ports programs old.run) in
       let a =
-      arrives kept h.from (requests_at programs) h.bytes (stranger_no_port programs (requests_at programs)
-      (at_port programs programs.port (λ k client found. fresh.ends.apart k programs.port client found first)
-      (fresh.ends.others programs.port first)))
-      (request_came old new kept added events take h) in
-      same_keeps old new a.now added events take (Request_received h) tt h.is refl
-      (λ from bytes e. subst (λ (p : Endpoint × List ℕ). HasArrived a.now.messages p.0 (requests_at programs) p.1)
-      (same_Some (h.from, h.bytes) (from, bytes) e) a.come) (Received _ h.from h.bytes ∷ []) refl (tt, tt)
+      arrives kept h.from (requests_at programs) h.bytes (stranger_no_port programs (requests_at programs) (at_port
+      programs programs.port (λ k client found. fresh.ends.apart k programs.port client found first) (fresh.ends.others
+      programs.port first))) (request_came old new kept added events take h) in
+      same_keeps old new a.now added events take (Request_received h) tt h.is refl (λ from bytes e. subst (λ (p :
+      Endpoint × List ℕ). HasArrived a.now.messages p.0 (requests_at programs) p.1) (same_Some (h.from, h.bytes) (
+        from,
+        bytes,
+      ) e) a.come) (Received _ h.from h.bytes ∷ []) refl (tt, tt)
   server_steps_keep old new (Request_answered h) added kept fresh events take = request_keeps kept h added events fresh
   server_steps_keep old new (Request_lost h) added kept fresh events take =
       same_keeps old new kept added events take (Request_lost h) tt h.is refl (λ from bytes e. absurd (cc)) [] refl tt
   server_steps_keep old new (Waited h) added kept fresh events take =
-      same_keeps old new kept added events take (Waited h) tt h.is refl kept.server.pending
-      (Quiet (Woke h.ports) ∷ Quiet (Slept h.millis) ∷ Watched h.watch ∷ []) refl (tt, (tt, (tt, tt)))
+      same_keeps old new kept added events take (Waited h) tt h.is refl kept.server.pending (Quiet (Woke h.ports) ∷
+      Quiet (Slept h.millis) ∷ Watched h.watch ∷ []) refl (tt, (tt, (tt, tt)))
   server_steps_keep old new (Store_set h) added kept fresh events take =
       same_keeps old new kept added events take (Store_set h) tt h.is refl kept.server.pending [] refl tt
   server_steps_keep old new (Transfer_closed h) added kept fresh events take =
       closing_keeps kept (fresh_before_server programs old new (Transfer_closed h) added fresh) h added (silent_by
       (Printed _ ∷ []) added old.state.events (ap (λ (s : LoopState S F D). s.events) h.is) events (printed_silent _))
   server_steps_keep old new does added kept fresh events take =
-      same_keeps old new kept added events take does tt (state_is does) refl kept.server.pending (_ ∷ []) refl
-      (search rules)
+      same_keeps old new kept added events take does tt (state_is does) refl kept.server.pending (_ ∷ []) refl (search
+      rules)

@@ -1,16 +1,15 @@
 -- An end stays viewed when another end turns, or when one more opens.
+use Rattle.std.proofs.Common.{rules as std_rules}
 use Rattle.tftp_promises.proofs.Common.{List, ℕ, ◌≡◌, rules, sym, Endpoint, [], ◌∙◌, ap, SourceMeaning, Some, subst}
-use Rattle.tftp_promises.proofs.Common.{inl, StoreMeaning, inr, ◌∷◌, SinkMeaning, ◌++◌, Programs, EndState, ◌⊎◌}
-use Rattle.tftp_promises.proofs.Common.{Contains, arith, ◌≢◌, slice_get, joined, ClientOf, outcome_of, OpenEnd}
-use Rattle.tftp_promises.proofs.Common.{Snapshot, same_Some, IsStranger, open_view, Mode, Spells, Message, WirePacket}
-use Rattle.tftp_promises.proofs.Common.{EndView, Contains-push, not, IsShown, message, WasSentBefore, said, is_complete}
-use Rattle.tftp_promises.proofs.Common.{IsAmong, Contains-append_left, set, Elsewhere, common_steps, ClientStage}
-use Rattle.tftp_promises.proofs.Common.{error_bytes, ◌&&◌, Network, is_some, MayCome, Error, Phase, IsError, spells_own}
-use Rattle.tftp_promises.proofs.Common.{slice_get-set_other, unblamed_still, one_meaning, ErrorReply, says_error}
-use Rattle.tftp_promises.proofs.Common.{slice_get-set_cases, error_packet, ViewsEnd, valid_error, append-nil, client_at}
-use Rattle.tftp_promises.proofs.Common.{Has_asked, Unasked, requests_at, Option}
+use Rattle.tftp_promises.proofs.Common.{inl, StoreMeaning, inr, ◌∷◌, SinkMeaning, ◌++◌, Programs, ◌⊎◌, Contains, arith}
+use Rattle.tftp_promises.proofs.Common.{◌≢◌, slice_get, joined, ClientOf, OpenEnd, Snapshot, same_Some, IsStranger}
+use Rattle.tftp_promises.proofs.Common.{open_view, Mode, Spells, Message, WirePacket, EndView, Contains-push, IsShown}
+use Rattle.tftp_promises.proofs.Common.{message, WasSentBefore, said, IsAmong, Contains-append_left, set, Elsewhere}
+use Rattle.tftp_promises.proofs.Common.{common_steps, ClientStage, error_bytes, Network, MayCome, Error, IsError}
+use Rattle.tftp_promises.proofs.Common.{spells_own, slice_get-set_other, unblamed_still, one_meaning, ErrorReply}
+use Rattle.tftp_promises.proofs.Common.{says_error, slice_get-set_cases, error_packet, valid_error, append-nil}
+use Rattle.tftp_promises.proofs.Common.{client_at, Has_asked, Unasked, requests_at, Option}
 use Rattle.tftp_rules.proofs.Indices.{slice_get-push_cases, slice_get-push_old}
-use Rattle.tftp_rules.specs.OpenEnds.{has_failed}
 use Rattle.tftp_wire.specs.Parts.{packet_in}
 use Rattle.tftp_wire.proofs.SpellingLemmas.{spelled_is_found}
 use Rattle.tftp_rules.specs.Machine.{Error as Says_an_error}
@@ -40,8 +39,7 @@ module _ {S F D G K : Type 0} {stores : StoreMeaning S D} {sources : SourceMeani
 -- the message of a datagram says what its bytes spell
 pub there_says : (messages : List Message) (from to : Endpoint) (bytes : List ℕ) → IsThere messages from to bytes →
     (p : WirePacket) → Spells p bytes → Contains messages (message from to (said p))
-there_says messages from to bytes h p s =
-    subst (λ (q : WirePacket). Contains messages (message from to (said q))) (one_meaning h.0 p bytes h.1 s) h.2
+there_says messages from to bytes h p s = rw (← one_meaning h.0 p bytes h.1 s) h.2
 
 -- the views and messages after a step at which an end turned, or opened, at most here: each other end stays viewed
 pub record Turns (network : Network) (IsText : Endpoint → Mode → Type 0) (views : List EndView)
@@ -77,25 +75,21 @@ module _ {network : Network} {IsText : Endpoint → Mode → Type 0} {views : Li
   pub viewed_beside : (said_now : List Message) (k : ℕ) (e f : EndView) (z : OpenEnd) → slice_get views k ≡ Some e →
       e.address ≢ z.address → IsViewed network IsText views messages z →
       IsViewed network IsText (set views k f) (messages ++ said_now) z
-  viewed_beside said_now k e f z at apart h = record {
-    kept = h.kept;
-    index = h.index;
-    viewed =
-        slice_get-set_other views k h.index f (λ same. apart (ap (λ (v : EndView). v.address)
-        (same_Some e (open_view z) (sym at ∙ (ap (slice_get views) (sym same) ∙ h.viewed))))) ∙ h.viewed;
-    last_sent = there_still messages said_now h.last_sent;
-    unblamed = unblamed_still network messages said_now z.state h.unblamed;
-  }
+  viewed_beside said_now k e f z at apart h =
+      search (
+        slice_get-set_other views k h.index f (λ same. apart (ap (λ (v : EndView). v.address) (same_Some e (open_view z) (sym at ∙ (ap (slice_get views) (sym same) ∙ h.viewed))))) ∙ h.viewed,
+        there_still messages said_now h.last_sent,
+        unblamed_still network messages said_now z.state h.unblamed,
+      )
 
   pub viewed_before : (said_now : List Message) (f : EndView) (z : OpenEnd) → IsViewed network IsText views messages z →
       IsViewed network IsText (views ++ f ∷ []) (messages ++ said_now) z
-  viewed_before said_now f z h = record {
-    kept = h.kept;
-    index = h.index;
-    viewed = slice_get-push_old views h.index f (open_view z) h.viewed;
-    last_sent = there_still messages said_now h.last_sent;
-    unblamed = unblamed_still network messages said_now z.state h.unblamed;
-  }
+  viewed_before said_now f z h =
+      search (
+        slice_get-push_old views h.index f (open_view z) h.viewed,
+        there_still messages said_now h.last_sent,
+        unblamed_still network messages said_now z.state h.unblamed,
+      )
 
   -- none turned or opened
   abbrev pub rests : {Here : Endpoint → Type 0} (said_now : List Message) →
@@ -137,16 +131,6 @@ module _ {network : Network} {IsText : Endpoint → Mode → Type 0} {views : Li
     only = λ view among. among_push views (open_view x) view a is among;
   }
 
--- What the view of an end has of its state and of its text.
-
--- closed, and not complete
-failed_is : (phase : Phase) → has_failed phase ≡ (is_some (outcome_of phase) && not (is_complete phase))
-failed_is phase = search rules
-
--- the view of an end is of its state
-pub views_end : (x : OpenEnd) (a : Endpoint) (e : EndState) → x.address ≡ a → x.state ≡ e → ViewsEnd a e (open_view x)
-views_end x a e at is = search rules
-
 -- the end of a client stays, if it is viewed still
 pub stage_still : {S F D G K : Type 0} {stores : StoreMeaning S D} {sources : SourceMeaning F} {inputs : SourceMeaning G}
     {outputs : SinkMeaning K} {programs : Programs stores sources inputs outputs} {pad : ℕ} {views next : List EndView}
@@ -156,15 +140,8 @@ pub stage_still : {S F D G K : Type 0} {stores : StoreMeaning S D} {sources : So
     IsViewed (joined programs) (SendsText programs pad) next (messages ++ more) z) →
     StageKept programs pad views messages client stage → StageKept programs pad next (messages ++ more) client stage
 stage_still more client Unasked viewed h = tt
-stage_still {messages = messages} more client (Has_asked s files noted moved) viewed h = record {
-  end = h.end;
-  address = h.address;
-  state = h.state;
-  side = h.side;
-  viewed = viewed h.end h.address h.viewed;
-  asks = there_still messages more h.asks;
-  has = h.has;
-}
+stage_still {messages = messages} more client (Has_asked s files noted moved) viewed h =
+    search (std_rules, there_still)
 
 -- What a step receives is among the messages: it was sent before, or it is a stranger's or an ERROR, whose message may
 -- be added at any time.
@@ -216,9 +193,7 @@ module _ {S F D G K : Type 0} {stores : StoreMeaning S D} {sources : SourceMeani
   stray_arrived : (from to : Endpoint) (bytes : List ℕ) →
       HasArrived (kept.messages ++ message from to (said (packet_in bytes)) ∷ []) from to bytes
   stray_arrived from to bytes p spells =
-      subst (λ (q : WirePacket). Contains (kept.messages ++ message from to (said (packet_in bytes)) ∷ [])
-      (message from to (said q))) (spelled_is_found p bytes spells)
-      (Contains-push kept.messages (message from to (said (packet_in bytes))))
+      rw (← spelled_is_found p bytes spells) (Contains-push kept.messages (message from to (said (packet_in bytes))))
 
   -- the invariant, with what has arrived
   pub record Arrived (from to : Endpoint) (bytes : List ℕ) : Type 0 where

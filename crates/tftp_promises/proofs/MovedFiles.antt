@@ -1,13 +1,14 @@
 -- What is known of the file of an end after a step of the end over any files, by what the finished run moved; and where
 -- it makes none.
-use Rattle.tftp_promises.proofs.Common.{List, ℕ, ◌≡◌, rules, Endpoint, refl, SourceMeaning, false, true, None, Files}
+use Rattle.std.proofs.Common.{rules as std_rules}
+use Rattle.tftp_promises.proofs.Common.{List, ℕ, ◌≡◌, Endpoint, refl, SourceMeaning, false, true, None, Files}
 use Rattle.tftp_promises.proofs.Common.{outcome_of, OpenEnd, is_sender, Turn, Moved, Sink, Source, IsPrefixOf}
 use Rattle.tftp_promises.proofs.Common.{DatagramStep, end_after, datagram_action, GaveSince, Network, EndKept, Holding}
 use Rattle.tftp_promises.proofs.Common.{known_sink, known_source, files_of, AreSame, step_moves, SinkMeaning}
 use Rattle.tftp_promises.proofs.Common.{after_turn, holding_of}
 use Rattle.tftp_promises.proofs.MovedStores.{Fate, sink_moves}
 use Rattle.tftp_promises.proofs.MovedSends.{source_moves}
-use Rattle.tftp_promises.proofs.Invariant.{FileSo, GaveSo, TookSo}
+use Rattle.tftp_promises.proofs.Invariant.{FileSo}
 use Rattle.tftp_promises.proofs.Texts.{pad_to}
 
 module _ {S K : Type 0} (Given : S → OpenEnd → Moved → Type 0) (Taken : K → OpenEnd → Moved → Type 0) (x : OpenEnd)
@@ -17,10 +18,7 @@ module _ {S K : Type 0} (Given : S → OpenEnd → Moved → Type 0) (Taken : K 
       ((s s' : S) → P s s' → Given s x moved → Given s' x moved) →
       ((k k' : K) → Q k k' → Taken k x moved → Taken k' x moved) → (files files' : Files S K) →
       AreSame P Q files files' → FileSo Given Taken files x moved → FileSo Given Taken files' x moved
-  file_on gives takes (Source s) (Source s') same h = (h.0, h.1, gives s s' same h.2)
-  file_on gives takes (Sink k) (Sink k') same h = (h.0, h.1, takes k k' same h.2)
-  file_on gives takes (Source s) (Sink k) same h = absurd same
-  file_on gives takes (Sink k) (Source s) same h = absurd same
+  file_on gives takes files files' same h = search std_rules
 
 -- after a turn that leaves its file
 module _ (x : OpenEnd) (turn : Turn)
@@ -29,23 +27,13 @@ module _ (x : OpenEnd) (turn : Turn)
   pub held_same : is_sender x.state.role.side ≡ false → holding_of (end_after x turn (files_of x)) ≡ holding_of x
   held_same receiver = rw (receiver) refl
 
-  -- what a sender gave, and what a receiver stored
-  gave_same : is_sender x.state.role.side ≡ true → (moved : Moved) → GaveSo x moved →
-      GaveSo (end_after x turn (files_of x)) moved
-  gave_same sender moved h = search rules
-
-  took_same : is_sender x.state.role.side ≡ false → (moved : Moved) → TookSo x moved →
-      TookSo (end_after x turn (files_of x)) moved
-  took_same receiver moved h = search rules
-
   pub file_turned : {S K : Type 0} (Given : S → OpenEnd → Moved → Type 0) (Taken : K → OpenEnd → Moved → Type 0)
       (files : Files S K) (moved : Moved) →
       ((s : S) → Given s x moved → Given s (end_after x turn (files_of x)) moved) →
       ((k : K) → is_sender x.state.role.side ≡ false → Taken k x moved →
       Taken k (end_after x turn (files_of x)) moved) → FileSo Given Taken files x moved →
       FileSo Given Taken files (end_after x turn (files_of x)) moved
-  file_turned Given Taken (Source s) moved gives takes h = (h.0, gave_same h.0 moved h.1, gives s h.2)
-  file_turned Given Taken (Sink k) moved gives takes h = (h.0, took_same h.0 moved h.1, takes k h.0 h.2)
+  file_turned Given Taken files moved gives takes h = search std_rules
 
 -- a step over what moves, and what is known of the file after it
 pub record MovesOver {S K : Type 0} (Given : S → OpenEnd → Moved → Type 0) (Taken : K → OpenEnd → Moved → Type 0)
@@ -87,8 +75,4 @@ module _ {S K L : Type 0} (sources : SourceMeaning S) (sinks : SinkMeaning K) (G
       (step_moves sources sinks from bytes x.state (Sink k) turn (Sink k') step moved)
   sink_over k k' l l' step takes h =
       let m = sink_moves sources sinks from turn x moved h.1 k k' bytes step in
-      record {
-        content = Sink m.after;
-        steps = rw (h.0) m.steps;
-        file = (h.0, m.took, takes m.after _ h.0 m.fate h.2);
-      }
+      search std_rules

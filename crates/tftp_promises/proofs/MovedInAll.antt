@@ -1,10 +1,10 @@
 -- What each transfer was opened for, and what its file has given or taken since, by the invariant in the end state; and
 -- what the source of a client has given.
-use Rattle.tftp_promises.proofs.Common.{List, ℕ, ◌≡◌, rules, sym, Endpoint, refl, ◌∙◌, ap, SourceMeaning, Some, subst}
+use Rattle.std.proofs.Common.{rules as std_rules}
+use Rattle.tftp_promises.proofs.Common.{List, ℕ, ◌≡◌, rules, sym, Endpoint, refl, ◌∙◌, ap, SourceMeaning, Some}
 use Rattle.tftp_promises.proofs.Common.{StoreMeaning, SinkMeaning, false, true, Programs, EndState, Files, true≢false}
 use Rattle.tftp_promises.proofs.Common.{slice_get, TransferState, ClientOf, is_sender, Sink, Source, moved_in, all_of}
-use Rattle.tftp_promises.proofs.Common.{moved_at, opened_at, GaveSince, HasOpened, StoreOpened, StoreBegan, HadStore}
-use Rattle.tftp_promises.specs.Drafts.{TookSince}
+use Rattle.tftp_promises.proofs.Common.{moved_at, opened_at, GaveSince, HasOpened, StoreOpened}
 use Rattle.tftp_promises.specs.AnyFiles.{WasGivenBy, WasGiven, WasOpened, WasTaken}
 use Rattle.tftp_promises.proofs.ClientTraces.{run_role}
 use Rattle.tftp_promises.proofs.Invariant.{ClientKept, FileSo, HasFile, IsGiven, IsKept, IsTaken, TransferKept}
@@ -19,21 +19,17 @@ module _ {S F D G K : Type 0} {stores : StoreMeaning S D} {sources : SourceMeani
 
     -- what the server opened there
     pub was_opened : WasOpened programs transfer a
-    was_opened = record {
-      opening = h.has.opened.opening;
-      opened = ap (λ (e : Endpoint). opened_at programs e programs.server.run) (sym h.address) ∙ h.has.opened.opened;
-      path = h.has.opened.path ∙ h.path;
-      role = h.has.opened.role ∙ ap (λ (e : EndState). e.role) h.state;
-    }
+    was_opened =
+        search (
+          ap (λ (e : Endpoint). opened_at programs e programs.server.run) (sym h.address) ∙ h.has.opened.opened,
+          h.has.opened.path ∙ h.path,
+          h.has.opened.role ∙ ap (λ (e : EndState). e.role) h.state,
+        )
 
     -- what holds of its end, which is the transfer's
     of_end : (P : List ℕ → List ℕ → EndState → Endpoint → Type 0) →
         P h.end.path h.end.request h.end.state h.end.address → P transfer.path transfer.request transfer.end a
-    of_end P holds =
-        subst (λ (b : Endpoint). P transfer.path transfer.request transfer.end b) h.address
-        (subst (λ (e : EndState). P transfer.path transfer.request e h.end.address) h.state
-        (subst (λ (r : List ℕ). P transfer.path r h.end.state h.end.address) h.request
-        (subst (λ (p : List ℕ). P p h.end.request h.end.state h.end.address) h.path holds)))
+    of_end P holds = search std_rules
 
     -- what its file has given or taken since
     abbrev HasMoved : Files F D → Type 0
@@ -43,15 +39,13 @@ module _ {S F D G K : Type 0} {stores : StoreMeaning S D} {sources : SourceMeani
 
     given_of : is_sender transfer.end.role.side ≡ true → (files : Files F D) → transfer.files ≡ files →
         HasMoved files → WasGiven programs transfer a
-    given_of sends (Source source) is f = record {
-      opening = f.2.opening;
-      first = of_end (λ p r e b. StoreOpened programs.server.run p r e.role.mode f.2.opening) f.2.first;
-      long = ap (λ (e : EndState). e.role.length) (sym h.state) ∙ f.2.long;
-      source = source;
-      is_source = is;
-      since = of_end (λ p r e b. GaveSince sources f.2.opening.source e (moved_at programs b programs.server.run).bytes
-          source) f.2.since;
-    }
+    given_of sends (Source source) is f =
+        search (
+          of_end (λ p r e b. StoreOpened programs.server.run p r e.role.mode f.2.opening) f.2.first,
+          ap (λ (e : EndState). e.role.length) (sym h.state) ∙ f.2.long,
+          of_end (λ p r e b. GaveSince sources f.2.opening.source e (moved_at programs b programs.server.run).bytes
+              source) f.2.since,
+        )
     given_of sends (Sink draft) is f =
         absurd (true≢false (sym sends ∙ (ap (λ (e : EndState). is_sender e.role.side) (sym h.state) ∙ f.0)))
 
@@ -60,23 +54,7 @@ module _ {S F D G K : Type 0} {stores : StoreMeaning S D} {sources : SourceMeani
 
     taken_of : is_sender transfer.end.role.side ≡ false → (files : Files F D) → transfer.files ≡ files →
         HasMoved files → WasTaken programs transfer a
-    taken_of receives (Sink draft) is f =
-        let complete = h.viewed.kept.committed f.0 in
-        record {
-          began_with = f.2.first;
-          began = of_end (λ p r e b. StoreBegan programs.server.run p r e.role.mode
-              programs.server.start.server.config.overwrite f.2.first) f.2.began;
-          draft = draft;
-          is_draft = is;
-          since = of_end (λ p r e b. TookSince stores (HadStore programs.server.run) p
-              programs.server.start.server.config.overwrite f.2.first e
-              (moved_at programs b programs.server.run).bytes draft) (record {
-                going = λ o n. f.2.since.going o (complete ∙ n);
-                done = λ c. f.2.since.done (complete ∙ c);
-              });
-        }
-    taken_of receives (Source source) is f =
-        absurd (true≢false (sym f.0 ∙ (ap (λ (e : EndState). is_sender e.role.side) h.state ∙ receives)))
+    taken_of receives files is f = search std_rules
 
     pub was_taken : is_sender transfer.end.role.side ≡ false → WasTaken programs transfer a
     was_taken receives = taken_of receives transfer.files refl h.has.file

@@ -1,17 +1,17 @@
 -- A step of a sender over any source is one over the text that the finished run tells.
+use Rattle.std.proofs.lemmas.Grind.{common_steps}
 use Rattle.tftp_promises.proofs.Common.{List, ℕ, ◌≡◌, rules, sym, Endpoint, refl, [], ◌∙◌, ap, SourceMeaning, Some}
-use Rattle.tftp_promises.proofs.Common.{subst, SinkMeaning, false, true, None, ◌++◌, Bool, EndState, Files, Option}
-use Rattle.tftp_promises.proofs.Common.{true≢false, arith, ◌≢◌, length, outcome_of, OpenEnd, if◌then◌else◌, is_sender}
-use Rattle.tftp_promises.proofs.Common.{Turn, Moved, Source, WirePacket, ◌≤◌, IsPrefixOf, after_turn, ◌+◌, Ok}
-use Rattle.tftp_promises.proofs.Common.{is_client, DatagramStep, Action, append_assoc, Ack, Acts, Respond, end_after}
-use Rattle.tftp_promises.proofs.Common.{datagram_action, ◌*◌, Terms, GaveSince, ◌&&◌, Network, EndKept}
-use Rattle.tftp_promises.proofs.Common.{has_error_opcode, Result, Store, Phase, known_sink, known_source, Err, Asked}
-use Rattle.tftp_promises.proofs.Common.{Send, terms_of, step_moves, block_length, if_acts, data_bytes, writer_action}
-use Rattle.tftp_promises.proofs.Common.{take, WrongPeer, packet_action, Ignore, is_wrong_peer, garbled_response}
-use Rattle.tftp_promises.proofs.Common.{length-append, is_none, drop, acts_move, Sending, GivesInTurn, FileChanged}
-use Rattle.tftp_promises.proofs.Common.{Gave_more, filled_turn, PhaseKept, with_more, sent_turn, sender_action}
+use Rattle.tftp_promises.proofs.Common.{subst, SinkMeaning, false, true, None, ◌++◌, Bool, EndState, Option, true≢false}
+use Rattle.tftp_promises.proofs.Common.{arith, ◌≢◌, length, outcome_of, OpenEnd, if◌then◌else◌, is_sender, Turn, Moved}
+use Rattle.tftp_promises.proofs.Common.{Source, WirePacket, ◌≤◌, IsPrefixOf, after_turn, ◌+◌, Ok, is_client}
+use Rattle.tftp_promises.proofs.Common.{DatagramStep, Action, Ack, Acts, Respond, end_after, datagram_action, ◌*◌}
+use Rattle.tftp_promises.proofs.Common.{Terms, GaveSince, ◌&&◌, Network, EndKept, has_error_opcode, Result, Store}
+use Rattle.tftp_promises.proofs.Common.{Phase, known_sink, known_source, Err, Asked, Send, terms_of, step_moves}
+use Rattle.tftp_promises.proofs.Common.{block_length, if_acts, writer_action, take, WrongPeer, packet_action, Ignore}
+use Rattle.tftp_promises.proofs.Common.{is_wrong_peer, garbled_response, length-append, is_none, drop, acts_move}
+use Rattle.tftp_promises.proofs.Common.{GivesInTurn, FileChanged, Gave_more, PhaseKept, with_more, sender_action}
 use Rattle.tftp_promises.proofs.Common.{result_count_is, begin_action, refused_turn}
-use Rattle.std.proofs.Common.{append-nil, ◌-◌}
+use Rattle.std.proofs.Common.{append-nil, ◌-◌, arith as std_arith, rules as std_rules}
 use Rattle.std.proofs.lemmas.List.{length-drop, nil_from_length}
 use Rattle.tftp_file.specs.Source.{Fills}
 use Rattle.tftp_file.specs.declared.fault.FileFault.{FileFault}
@@ -80,9 +80,6 @@ pub piece_length : (before after : Option (List ℕ)) (want : ℕ) (piece : List
     Fills before after want [] piece (Ok want) → length piece ≡ want
 piece_length before after want piece f = search rules
 
-no_memory : (n : ℕ) → ◌≢◌ {A = Result ℕ FileFault} (Ok n) (Err file_faults.Memory)
-no_memory n e = cc
-
 no_memory_read : ◌≢◌ {A = Result ℕ FileFault} (Err file_faults.Read) (Err file_faults.Memory)
 no_memory_read e = cc
 
@@ -103,8 +100,7 @@ module _ {S : Type 0} {sources : SourceMeaning S} where
   pub gave_none : {first before after : S} {e : EndState} {bytes : List ℕ} → GaveSince sources first e bytes before →
       sources.gives before [] after → GaveSince sources first e bytes after
   gave_none {first = first} {after = after} {bytes = bytes} h none =
-      search (subst (λ (t : List ℕ). GivesInTurn sources first t after) (append-nil (bytes ++ h.rest))
-      (Gave_more h.given none))
+      search (rw (append-nil (bytes ++ h.rest)) at (Gave_more h.given none))
 
   -- at another position, which is open only if the end was
   pub gave_still : {first last : S} {e e' : EndState} {bytes : List ℕ} → e'.role ≡ e.role →
@@ -145,50 +141,27 @@ module _ {S K : Type 0} (sources : SourceMeaning S) (sinks : SinkMeaning K) (x :
       (Sends known_source terms number from x.state x.left turn)
   whole terms number h within count told =
       let n = want terms number in
-      let is = whole_answer n h.answer count in
+      let is = whole_answer n _ count in
       let fills =
-      subst (λ (r : Result ℕ FileFault). Fills (sources.left s) (sources.left s') n [] h.piece r) is
-      h.reads.fills in
-      let long : length h.piece ≡ n = piece_length (sources.left s) (sources.left s') n h.piece fills in
-      let all_left : moved.bytes ++ x.left ≡ x.text = gave.left still in
+      subst (λ (r : Result ℕ FileFault). Fills (sources.left s) (sources.left s') n [] h.piece r) is h.reads.fills in
+      let long = piece_length _ _ n _ fills in
+      let all_left = gave.left still in
       let long_text = measured in
       let a = length-append moved.bytes h.piece in
       let b = length-append moved.bytes x.left in
       let c = ap (λ (t : List ℕ). length t) all_left in
       let short : length (moved.bytes ++ h.piece) ≤ x.state.role.length =
       omega (arith, a, b, c, long, within, long_text) in
-      let begins : IsPrefixOf (moved.bytes ++ h.piece) x.text =
-      subst (λ (t : List ℕ). IsPrefixOf (moved.bytes ++ h.piece) t) (sym text)
-      (begins_padded pad x.state.role.length (moved.bytes ++ h.piece) all told short) in
-      let next : IsPrefixOf h.piece x.left =
-      begins_after moved.bytes h.piece x.left (subst (λ (t : List ℕ). IsPrefixOf (moved.bytes ++ h.piece) t)
-      (sym all_left) begins) in
-      let given : h.piece ≡ take n x.left =
-      sym (begins_by_take h.piece x.left next) ∙ ap (λ (k : ℕ). take k x.left) long in
-      let rest : h.piece ++ drop n x.left ≡ x.left =
-      ap (λ (k : ℕ). h.piece ++ drop k x.left) (sym long) ∙ then_rest h.piece x.left next in
+      let begins =
+      subst (λ (t : List ℕ). IsPrefixOf (moved.bytes ++ h.piece) t) (sym text) (begins_padded pad _ _ _ told short) in
+      let next =
+      begins_after _ _ _ (subst (λ (t : List ℕ). IsPrefixOf (moved.bytes ++ h.piece) t) (sym all_left) begins) in
+      let given = sym (begins_by_take _ _ next) ∙ ap (λ (k : ℕ). take k x.left) long in
+      let rest = ap (λ (k : ℕ). h.piece ++ drop k x.left) (sym long) ∙ then_rest _ _ next in
       record {
         left = drop n x.left;
-        steps = record {
-          answer = Ok n;
-          piece = h.piece;
-          reads =
-              record {
-                fills = record { count = omega (arith, within); given = given; rest = refl };
-                read = λ q. tt;
-                fails = λ q. absurd q;
-                memory = no_memory n;
-              };
-          gives = tt;
-          answers =
-              subst (λ (r : Result ℕ FileFault). turn ≡ filled_turn terms number from h.piece x.state r) is h.answers;
-        };
-        gave = record {
-          prefix = begins;
-          left =
-              λ o. append_assoc moved.bytes h.piece (drop n x.left)
-              ∙ (ap (λ (t : List ℕ). moved.bytes ++ t) rest ∙ all_left);
-        };
+        steps = search std_rules;
+        gave = grind (std_arith, common_steps);
         given = λ first since. gave_first (Gave_more (before since) h.gives);
       }
 
@@ -202,10 +175,8 @@ module _ {S K : Type 0} (sources : SourceMeaning S) (sinks : SinkMeaning K) (x :
       want terms number ≤ length x.left → result_count_is (want terms number) h.answer ≡ false →
       Moves (with_more [] moved.committed moved) (Sends known_source terms number from x.state x.left turn)
   failed terms number h within count =
-      let answers : turn ≡ refused_turn terms FileChanged outcomes.SourceFault from x.state =
-      h.answers
-      ∙ ap (λ (b : Bool). if b then sent_turn (Sending terms number) from (data_bytes number h.piece) x.state else
-      refused_turn terms FileChanged outcomes.SourceFault from x.state) count in
+      let answers : turn ≡ refused_turn terms FileChanged outcomes.SourceFault from x.state = search std_rules steps
+      300000 in
       record {
         left = x.left;
         steps = record {
@@ -215,17 +186,13 @@ module _ {S K : Type 0} (sources : SourceMeaning S) (sinks : SinkMeaning K) (x :
           gives = tt;
           answers = answers;
         };
-        gave = record {
-          prefix = subst (λ (t : List ℕ). IsPrefixOf t x.text) (sym (append-nil moved.bytes)) gave.prefix;
-          left = λ o. ap (λ (t : List ℕ). t ++ x.left) (append-nil moved.bytes) ∙ gave.left still;
-        };
+        gave = search std_rules;
         given = λ first since. record {
           rest = h.piece;
-          given = rw (← ap (λ (t : List ℕ). t ++ h.piece) (sym (append-nil moved.bytes)))
-              (Gave_more (before since) h.gives);
-          going = λ o. absurd (let f : Some outcomes.SourceFault ≡ None =
-              ap (λ (t : Turn). outcome_of t.position.phase) (sym answers) ∙ o in cc);
-          whole = λ all_sent. no_piece terms number h within all_sent;
+          given = rw (← ap (λ (t : List ℕ). t ++ h.piece) (sym (append-nil moved.bytes))) (Gave_more (before since)
+              h.gives);
+          going = λ o. absurd (cc);
+          whole = λ all_sent. no_piece _ _ h within all_sent;
         };
       }
 
@@ -237,21 +204,12 @@ module _ {S K : Type 0} (sources : SourceMeaning S) (sinks : SinkMeaning K) (x :
   either terms number h within true count told = whole terms number h within count told
   either terms number h within false count told = failed terms number h within count
 
-  same_source : (a b : S) → ◌≡◌ {A = Files S K} (Source a) (Source b) → a ≡ b
-  same_source a b e = cc
-
   source_acts : (action : Action) → ReadsWithin x.state.role.length x.left action →
       (bytes : List ℕ) (acts : Acts sources sinks action from bytes x.state (Source s) turn (Source s')) →
       IsPrefixOf (acts_move sources sinks action from bytes x.state (Source s) turn (Source s') acts moved).bytes all →
       Moves (acts_move sources sinks action from bytes x.state (Source s) turn (Source s') acts moved)
       (λ (left : List ℕ). Acts known_source known_sink action from bytes x.state (Source x.left) turn (Source left))
-  source_acts (Respond response) within bytes acts told = record {
-    left = x.left;
-    steps = (acts.0, refl);
-    gave = record { prefix = gave.prefix; left = λ o. gave.left still };
-    given = λ first since.
-        gave_first (rw (same_source s' s acts.1) (before since));
-  }
+  source_acts (Respond response) within bytes acts told = search std_rules
   source_acts (Send terms number) within bytes acts told =
       either terms number acts within (result_count_is (want terms number) acts.answer) refl told
   source_acts (Store terms number) within bytes acts told = absurd acts.2
@@ -263,17 +221,5 @@ module _ {S K : Type 0} (sources : SourceMeaning S) (sinks : SinkMeaning K) (x :
       Moves (step_moves sources sinks from bytes x.state (Source s) turn (Source s') step moved)
       (λ (left : List ℕ). DatagramStep known_source known_sink from bytes x.state (Source x.left) turn (Source left))
   source_moves network kept sender bytes step told =
-      let h =
-      source_acts (datagram_action x.state from bytes step.decoded)
-      (reads_within x sender from network step.decoded bytes kept) bytes step.acts told in
-      record {
-        left = h.left;
-        steps = record {
-          decoded = step.decoded;
-          says = step.says;
-          acts = h.steps;
-          again = step.again;
-        };
-        gave = h.gave;
-        given = h.given;
-      }
+      let h = source_acts _ (reads_within x sender from _ step.decoded bytes kept) _ _ told in
+      search

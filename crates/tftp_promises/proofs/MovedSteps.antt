@@ -1,14 +1,14 @@
 -- What has moved at the place of a transfer after a step of the server, and after a run; and where a step leaves the
 -- transfers.
-use Rattle.tftp_promises.proofs.Common.{List, ℕ, ◌≡◌, rules, sym, Endpoint, refl, [], ap, SourceMeaning, subst}
+use Rattle.std.proofs.Common.{rules as std_rules}
+use Rattle.tftp_promises.proofs.Common.{List, ℕ, ◌≡◌, rules, sym, Endpoint, refl, [], SourceMeaning, subst}
 use Rattle.tftp_promises.proofs.Common.{StoreMeaning, ◌∷◌, SinkMeaning, false, true, None, Programs, Bool, EndState}
 use Rattle.tftp_promises.proofs.Common.{Contains, Files, Option, ◌≢◌, LoopState, length, TransferState, LoopStep}
 use Rattle.tftp_promises.proofs.Common.{if◌then◌else◌, Run, Turn, State, Moved, Contains-push, IsPrefixOf, A_transfer}
-use Rattle.tftp_promises.proofs.Common.{Receives_one, map, place_at, ClientDoes, Action, Came, PortStep}
-use Rattle.tftp_promises.proofs.Common.{Request_answered, Answers, Acts, Respond, PortState, AnswersRequest}
-use Rattle.tftp_promises.proofs.Common.{HandlesReceived, Loses, opened_ports, Store, option_to_list, place, Send}
-use Rattle.tftp_promises.proofs.Common.{came_if, client_moves, ServesPort, acts_move, port_moves, same_self, is_same}
-use Rattle.tftp_promises.proofs.Common.{opening_moves, opens_at, handling_moves, same_other}
+use Rattle.tftp_promises.proofs.Common.{Receives_one, place_at, ClientDoes, Action, Came, PortStep, Request_answered}
+use Rattle.tftp_promises.proofs.Common.{Answers, Acts, Respond, PortState, AnswersRequest, HandlesReceived, Loses}
+use Rattle.tftp_promises.proofs.Common.{opened_ports, place, came_if, client_moves, ServesPort, acts_move, port_moves}
+use Rattle.tftp_promises.proofs.Common.{same_self, is_same, opening_moves, opens_at, handling_moves, same_other}
 use Rattle.tftp_loop.specs.Steps.{At_port, A_datagram}
 use Rattle.tftp_promises.specs.Openings.{does_move}
 use Rattle.tftp_promises.proofs.Places.{placed_by}
@@ -20,16 +20,14 @@ module _ {S K : Type 0} (sources : SourceMeaning S) (sinks : SinkMeaning K) wher
       (files' : Files S K) (acts : Acts sources sinks action from bytes e files turn files') (moved : Moved) →
       IsPrefixOf moved.bytes (acts_move sources sinks action from bytes e files turn files' acts moved).bytes
   acts_more (Respond response) from bytes e files turn files' acts moved = begins_itself moved.bytes
-  acts_more (Send terms number) from bytes e files turn files' acts moved = begins_more moved.bytes _
-  acts_more (Store terms number) from bytes e files turn files' acts moved = begins_more moved.bytes _
+  acts_more action from bytes e files turn files' acts moved = begins_more moved.bytes _
 
 module _ {G K : Type 0} {inputs : SourceMeaning G} {outputs : SinkMeaning K} {port : ℕ} where
   handling_more : {from : Endpoint} {bytes : List ℕ} {s next : State} {files files' : Files G K}
       (handles : HandlesReceived inputs outputs port from bytes s files next files') (moved : Moved) →
       IsPrefixOf moved.bytes (handling_moves handles moved).bytes
   handling_more {from = from} {bytes = bytes} {s = s} {files = files}
-      (Answers {turn = turn} {files' = files'} still step) moved =
-      acts_more inputs outputs _ from bytes s.end files turn files' step.acts moved
+      (Answers {turn = turn} {files' = files'} still step) moved = search (std_rules, acts_more)
   handling_more (Loses lost keeps) moved = begins_itself moved.bytes
 
   -- of a client
@@ -62,9 +60,7 @@ module _ {S F D : Type 0} where
 module _ {S F D : Type 0} {stores : StoreMeaning S D} {sources : SourceMeaning F} where
   port_more : {now : ℕ} {old new : PortState S F D} (does : PortStep stores sources now old new) (moved : Moved) →
       IsPrefixOf moved.bytes (port_moves does moved).bytes
-  port_more (A_datagram h) moved =
-      acts_more sources _ _ h.from h.bytes h.handles.takes.transfer.end _ h.handles.takes.takes.turn _
-      h.handles.takes.takes.steps.acts moved
+  port_more (A_datagram h) moved = search (std_rules, acts_more)
   port_more does moved = begins_itself moved.bytes
 
 module _ {S F D G K : Type 0} {stores : StoreMeaning S D} {sources : SourceMeaning F} {inputs : SourceMeaning G}
@@ -74,18 +70,9 @@ module _ {S F D G K : Type 0} {stores : StoreMeaning S D} {sources : SourceMeani
   pub server_more : (a : Endpoint) (does : LoopStep stores sources old new) (moved : Moved) →
       opens_at programs a run does ≡ None → IsPrefixOf moved.bytes (does_move programs a run does moved).bytes
   server_more a (At_port serves) moved none =
-      either_more (is_same (place_at programs serves.timer.port run) a) moved (port_moves serves.does moved)
-      (port_more serves.does moved)
-  server_more a (Request_answered answers) moved none =
-      opening_more (came_if (is_same (place programs (length (opened_ports run)) answers.from answers.tid) a)
-      answers.steps.came) moved none
+      either_more (is_same (place_at programs serves.timer.port run) a) _ _ (port_more serves.does moved)
+  server_more a (Request_answered answers) moved none = opening_more _ moved none
   server_more a does moved none = begins_itself moved.bytes
-
-  -- ---- where a step opens transfers
-  -- the port of a transfer that comes
-  came_port : (answers : AnswersRequest stores sources old new) (held : TransferState F D) (store : S) →
-      answers.steps.came ≡ A_transfer held store → option_to_list answers.left.opened.tid ≡ answers.tid ∷ []
-  came_port answers held store came = search rules
 
   answer_opens_none : (answers : AnswersRequest stores sources old new) (a : Endpoint) →
       (Contains (placed_by programs run (Request_answered answers)) a → ⊥) →
@@ -93,10 +80,9 @@ module _ {S F D G K : Type 0} {stores : StoreMeaning S D} {sources : SourceMeani
   answer_opens_none answers a n =
       let b = place programs (length (opened_ports run)) answers.from answers.tid in
       came_none (is_same b a) answers.steps.came (λ same held store came.
-      let placed : placed_by programs run (Request_answered answers) ≡ b ∷ [] =
-      ap (map (place programs (length (opened_ports run)) answers.from)) (came_port answers held store came) in
-      n (subst (λ (ps : List Endpoint). Contains ps a) (sym placed)
-      (subst (λ (e : Endpoint). Contains (b ∷ []) e) (one_endpoint b a same) (Contains-push [] b))))
+      let placed : placed_by programs run (Request_answered answers) ≡ b ∷ [] = search std_rules in
+      n (subst (λ (ps : List Endpoint). Contains ps a) (sym placed) (subst (λ (e : Endpoint). Contains (b ∷ []) e)
+      (one_endpoint b a same) (Contains-push [] b))))
 
   -- a place where a step opens none
   pub opens_none : (does : LoopStep stores sources old new) (a : Endpoint) →

@@ -1,16 +1,16 @@
 -- A step of a receiver over any sink is one over what the sink was handed.
-use Rattle.tftp_promises.proofs.Common.{List, ℕ, ◌≡◌, rules, sym, Endpoint, refl, [], ◌∙◌, ap, SourceMeaning, Some}
-use Rattle.tftp_promises.proofs.Common.{subst, inl, StoreMeaning, inr, ◌∷◌, SinkMeaning, false, true, None, ◌++◌, Bool}
-use Rattle.tftp_promises.proofs.Common.{EndState, ◌⊎◌, Files, Option, true≢false, ◌≢◌, length, outcome_of, OpenEnd}
-use Rattle.tftp_promises.proofs.Common.{Turn, Moved, Sink, WirePacket, cases_Bool, Ok, DatagramStep, Action}
-use Rattle.tftp_promises.proofs.Common.{is_complete, drafting_sink, Acts, Respond, end_after, datagram_action, Terms}
-use Rattle.tftp_promises.proofs.Common.{Holding, Result, Store, known_sink, known_source, Err, nat_lt, Send, step_moves}
+use Rattle.tftp_promises.proofs.Common.{List, ℕ, ◌≡◌, rules, Endpoint, refl, [], ◌∙◌, ap, SourceMeaning, inl}
+use Rattle.tftp_promises.proofs.Common.{StoreMeaning, inr, ◌∷◌, SinkMeaning, false, true, None, ◌++◌, Bool, EndState}
+use Rattle.tftp_promises.proofs.Common.{◌⊎◌, Files, Option, true≢false, ◌≢◌, length, outcome_of, OpenEnd, Turn, Moved}
+use Rattle.tftp_promises.proofs.Common.{Sink, WirePacket, cases_Bool, Ok, DatagramStep, Action, is_complete}
+use Rattle.tftp_promises.proofs.Common.{drafting_sink, Acts, Respond, end_after, datagram_action, Terms, Holding}
+use Rattle.tftp_promises.proofs.Common.{Result, Store, known_sink, known_source, Err, nat_lt, Send, step_moves}
 use Rattle.tftp_promises.proofs.Common.{Drafting, StoreFault, ErrorReply, Done, committed_turn, TakesInTurn, acts_move}
-use Rattle.tftp_promises.proofs.Common.{with_more, refused_turn, WasCommitted, holding, GoesOn, holding_of}
-use Rattle.std.proofs.Common.{append-nil}
-use Rattle.std.specs.Prelude.{◌||◌, is_ok, IfErr}
-use Rattle.std.specs.Result.{result_err}
-use Rattle.tftp_file.specs.Sink.{CommitsFreely, UnlessArmed, as_committed, with_piece}
+use Rattle.tftp_promises.proofs.Common.{with_more, WasCommitted, holding, GoesOn, holding_of}
+use Rattle.std.proofs.Common.{rules as std_rules}
+use Rattle.std.proofs.lemmas.Bool.{or_left, or_right}
+use Rattle.std.specs.Prelude.{◌||◌, is_ok}
+use Rattle.tftp_file.specs.Sink.{as_committed, with_piece}
 use Rattle.tftp_ends.specs.Step.{Appended, Stores}
 use Rattle.tftp_store.specs.Drafts.{Took_more, Written_back}
 use Rattle.tftp_promises.specs.Moved.{commits_after}
@@ -19,37 +19,18 @@ use Rattle.tftp_file.specs.declared.fault.StoreFault.TheVariants as faults
 use Rattle.tftp_ends.specs.declared.error_reply.ErrorReply.TheVariants as replies
 use Rattle.tftp_ends.specs.declared.outcome.Outcome.TheVariants as outcomes
 
--- a fault that anything may return
-any_fault : {A E : Type 0} (answer : Result A E) (P : E → Type 0) → ((fault : E) → P fault) → IfErr answer P
-any_fault answer P f = search rules
-
 -- what a sink holds that was handed these bytes; without bytes it was not called
 abbrev handed : List ℕ → Holding → Holding
 handed [] before = before
 handed (b ∷ bytes) before = with_piece before (b ∷ bytes)
 
-handed_bytes : (bytes : List ℕ) (before : Holding) → (handed bytes before).bytes ≡ before.bytes ++ bytes
-handed_bytes bytes before = search (rules, append-nil)
-
 handed_refuses : (bytes : List ℕ) (before : Holding) → (handed bytes before).refuses ≡ before.refuses
 handed_refuses bytes before = search rules
-
-handed_committed : (bytes : List ℕ) (before : Holding) → (handed bytes before).committed ≡ true →
-    before.committed ≡ true
-handed_committed bytes before e = search (rules, true≢false)
-
-unless_armed : {A : Type 0} (armed : Bool) (before : Holding) (after : Holding) (answer : Result A StoreFault)
-    (P : Type 0) → armed ≡ false → P → UnlessArmed armed before (Some after) answer P
-unless_armed armed before after answer P e p = search (rules, true≢false)
 
 -- what a commit leaves
 abbrev commit_leaves : Result Done StoreFault → Holding → Holding
 commit_leaves (Ok done) before = as_committed before
 commit_leaves (Err fault) before = before
-
-commit_freely : (before : Holding) (answer : Result Done StoreFault) →
-    CommitsFreely before (Some (commit_leaves answer before)) answer
-commit_freely before answer = search rules
 
 commit_bytes : (answer : Result Done StoreFault) (before : Holding) → (commit_leaves answer before).bytes ≡ before.bytes
 commit_bytes answer before = search rules
@@ -57,12 +38,6 @@ commit_bytes answer before = search rules
 commit_refuses : (answer : Result Done StoreFault) (before : Holding) →
     (commit_leaves answer before).refuses ≡ before.refuses
 commit_refuses answer before = search rules
-
-or_left : (a b : Bool) → a ≡ true → (a || b) ≡ true
-or_left a b e = search (rules, true≢false)
-
-or_right : (a b : Bool) → b ≡ true → (a || b) ≡ true
-or_right a b e = search rules
 
 -- ---- a step
 -- of a receiver over what its sink was handed
@@ -107,71 +82,38 @@ module _ {S K : Type 0} (sources : SourceMeaning S) (sinks : SinkMeaning K) (fro
       GoesSo e k k' answer before mid committed P
   stays_so {before = before} {mid = mid} {committed = committed} going steps = search rules
 
-  -- an end that was refused has closed
-  closes : {A : Type 0} (terms : Terms) (reply : ErrorReply) (e : EndState) →
-      turn ≡ refused_turn terms reply outcomes.StoreFault from e → outcome_of turn.position.phase ≡ None → A
-  closes terms reply e answers o = search rules
-
   -- a commit that succeeded, or that closed the end
   module _ (terms : Terms) (number : ℕ) (e : EndState) (k k' : K) (mid : Holding) where
     commit_going : (answer : Result Done StoreFault) → turn ≡ committed_turn terms number from e answer →
         outcome_of turn.position.phase ≡ None → (commit_leaves answer mid).committed ≡ false → k' ≡ k
     commit_going answer answers o c = search rules
 
-    commit_done : (answer : Result Done StoreFault) → sinks.after_commit k k' (result_err answer) →
-        (commit_leaves answer mid).committed ≡ true → (mid.committed ≡ true) ⊎ sinks.after_commit k k' None
-    commit_done answer effect c = search rules
-
   goes_so : (terms : Terms) (number : ℕ) (e : EndState) (last : Bool) (text : List ℕ) (k k' : K)
       (answer : Result Done StoreFault) (before mid : Holding) → mid.refuses ≡ false →
       (h : GoesOn sinks terms number from e last text k answer turn k') →
       GoesSo e k k' answer before mid (commits_after sources sinks terms number from e last text k answer turn k' h)
       (GoesOn known_sink terms number from e last text mid answer turn)
-  goes_so terms number e last text k k' (Err fault) before mid free h =
-      stays_so (closes terms replies.DiskFull e h.0) (h.0, refl)
+  goes_so terms number e last text k k' (Err fault) before mid free h = search std_rules
   goes_so terms number e false text k k' (Ok done) before mid free h = stays_so (λ o. (refl, h.1)) (h.0, refl)
   goes_so terms number e true text k k' (Ok done) before mid free h = record {
     after = commit_leaves h.answer mid;
-    steps = record {
-      answer = h.answer;
-      commits =
-          unless_armed mid.refuses mid (commit_leaves h.answer mid) h.answer
-          (CommitsFreely mid (Some (commit_leaves h.answer mid)) h.answer) free (commit_freely mid h.answer);
-      refused = any_fault h.answer _ (λ fault. tt);
-      effect = tt;
-      leaves = tt;
-      answers = h.answers;
-    };
+    steps = search std_rules;
     bytes = commit_bytes h.answer mid;
     refuses = commit_refuses h.answer mid;
     commits = λ c was. committed h.answer c was;
     going = λ o c. (refl, commit_going terms number (holding text e) k k' mid h.answer h.answers o c);
-    done = λ c. elim (commit_done terms number (holding text e) k k' mid h.answer h.effect c) [
-      | inl was ↦ inl was
-      | inr commit ↦ inr (refl, commit)
-    ];
+    done = search std_rules;
   } where
     committed : (answer : Result Done StoreFault) → (commit_leaves answer mid).committed ≡ true →
         (mid.committed ≡ true → before.committed ≡ true) → (before.committed || is_ok answer) ≡ true
     committed (Ok done) c was = or_right before.committed true refl
     committed (Err fault) c was = or_left before.committed false (was c)
 
-  appends_so : (bytes : List ℕ) (k mid : K) (before : Holding) (answer : Result Done StoreFault) →
-      before.refuses ≡ false → answer ≢ Err faults.Memory →
-      Appended sinks bytes k mid answer → Appended known_sink bytes before (handed bytes before) answer
-  appends_so bytes k mid before answer free memory h = search rules
-
   -- the sink is as it was
   same_sink : (a b : K) → ◌≡◌ {A = Files S K} (Sink a) (Sink b) → a ≡ b
   same_sink a b e = cc
 
   module _ (x : OpenEnd) (moved : Moved) (took : TookSo x moved) (k k' : K) where
-    -- an append that succeeded
-    appended : (terms : Terms) (number : ℕ) (piece : List ℕ)
-        (h : Stores sinks terms number from piece x.state k turn k') → h.answer ≡ Ok tt →
-        Appended sinks h.bytes k h.mid (Ok tt)
-    appended terms number piece h is = search rules
-
     stores_so : (terms : Terms) (number : ℕ) (piece : List ℕ)
         (h : Stores sinks terms number from piece x.state k turn k') →
         SinkMoves x turn (with_more h.bytes (moved.committed || commits_after sources sinks terms number from x.state
@@ -182,34 +124,14 @@ module _ {S K : Type 0} (sources : SourceMeaning S) (sinks : SinkMeaning K) (fro
         let before = holding_of x in
         let mid = handed h.bytes before in
         let goes =
-        goes_so terms number x.state (nat_lt (length piece) terms.size) h.after h.mid k' h.answer
-        (record before { committed = moved.committed }) mid (handed_refuses h.bytes before ∙ took.refuses) h.rest in
+        goes_so terms number x.state (nat_lt (length piece) terms.size) h.after h.mid k' h.answer (record before {
+          committed = moved.committed;
+        }) mid (handed_refuses h.bytes before ∙ took.refuses) h.rest in
         record {
           after = goes.after;
-          steps = record {
-            bytes = h.bytes;
-            after = h.after;
-            mid = mid;
-            answer = h.answer;
-            decoded = h.decoded;
-            appended = appends_so h.bytes k h.mid before h.answer took.refuses h.memory h.appended;
-            memory = h.memory;
-            rest = goes.steps;
-          };
-          took = record {
-            stored = goes.bytes ∙ (handed_bytes h.bytes before ∙ ap (λ (t : List ℕ). t ++ h.bytes) took.stored);
-            committed = λ c. goes.commits c (λ m. took.committed (handed_committed h.bytes before m));
-            refuses = goes.refuses ∙ (handed_refuses h.bytes before ∙ took.refuses);
-          };
-          fate = record {
-            going =
-                λ o c. let g = goes.going o c in
-                subst (λ (z : K). Appended sinks h.bytes k z (Ok tt)) (sym g.1) (appended terms number piece h g.0);
-            done = λ c. elim (goes.done c) [
-              | inl was ↦ inl (handed_committed h.bytes before was)
-              | inr d ↦ inr (h.mid, appended terms number piece h d.0, d.1)
-            ];
-          };
+          steps = search std_rules;
+          took = search std_rules;
+          fate = search std_rules;
         }
 
     sink_acts : (action : Action) (bytes : List ℕ) (acts : Acts sources sinks action from bytes x.state (Sink k) turn
@@ -239,17 +161,7 @@ module _ {S K : Type 0} (sources : SourceMeaning S) (sinks : SinkMeaning K) (fro
         after.committed)
     sink_moves bytes step =
         let h = sink_acts (datagram_action x.state from bytes step.decoded) bytes step.acts in
-        record {
-          after = h.after;
-          steps = record {
-            decoded = step.decoded;
-            says = step.says;
-            acts = h.steps;
-            again = step.again;
-          };
-          took = h.took;
-          fate = h.fate;
-        }
+        search
 
 -- What the draft of a transfer has taken since it was begun, after a step of its end, or after its own work.
 
@@ -296,12 +208,6 @@ module _ {S D : Type 0} {stores : StoreMeaning S D} {HasBeen : S → Type 0} {pa
       (outcome_of y.state.position.phase ≡ None → outcome_of x.state.position.phase ≡ None) →
       TookBy stores HasBeen path replace first x bytes last → TookBy stores HasBeen path replace first y bytes last
   took_still same still h = search rules
-
-  -- if the server may have had more stores
-  pub took_longer : {HasBeen' : S → Type 0} → ((store : S) → HasBeen store → HasBeen' store) →
-      {x : OpenEnd} {bytes : List ℕ} {last : D} → TookBy stores HasBeen path replace first x bytes last →
-      TookBy stores HasBeen' path replace first x bytes last
-  took_longer more h = search rules
 
   -- ---- a step
   module _ (x : OpenEnd) (turn : Turn) (d d' : Drafting S D) (after : Holding) (earlier now : List ℕ)

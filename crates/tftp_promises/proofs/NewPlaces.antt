@@ -1,23 +1,24 @@
 -- No two transfers of a run are at one place, and none is at a client's endpoint.
+use Rattle.std.proofs.Common.{rules as std_rules}
 use Rattle.tftp_promises.proofs.Common.{List, ℕ, ◌≡◌, rules, sym, Endpoint, refl, [], ◌∙◌, ap, SourceMeaning, Some}
-use Rattle.tftp_promises.proofs.Common.{subst, inl, StoreMeaning, inr, ◌∷◌, SinkMeaning, false, true, None, ◌++◌}
-use Rattle.tftp_promises.proofs.Common.{Programs, Bool, ◌⊎◌, Contains, Files, SocketEvent, Option, arith, ◌≢◌}
-use Rattle.tftp_promises.proofs.Common.{LoopState, length, slice_get, LoopStep, joined, ClientOf, outcome_of, OpenEnd}
-use Rattle.tftp_promises.proofs.Common.{if◌then◌else◌, is_sender, client_at, endpoint, Snapshot, Run, Turn, suc, Mode}
-use Rattle.tftp_promises.proofs.Common.{Then, Start, Spells, WirePacket, EndView, zero, ◌≤◌, Contains-push, requests_at}
-use Rattle.tftp_promises.proofs.Common.{after_turn, ◌<◌, ◌+◌, DatagramStep, server_did, our_ports, Has_asked, map, Came}
+use Rattle.tftp_promises.proofs.Common.{subst, inl, StoreMeaning, inr, ◌∷◌, SinkMeaning, false, true, None, Programs}
+use Rattle.tftp_promises.proofs.Common.{Bool, ◌⊎◌, Contains, Files, SocketEvent, Option, arith, ◌≢◌, LoopState, length}
+use Rattle.tftp_promises.proofs.Common.{slice_get, LoopStep, joined, ClientOf, outcome_of, OpenEnd, if◌then◌else◌}
+use Rattle.tftp_promises.proofs.Common.{is_sender, client_at, endpoint, Snapshot, Run, Turn, suc, Mode, Then, Start}
+use Rattle.tftp_promises.proofs.Common.{Spells, WirePacket, EndView, zero, ◌≤◌, Contains-push, requests_at, after_turn}
+use Rattle.tftp_promises.proofs.Common.{◌<◌, ◌+◌, DatagramStep, server_did, our_ports, Has_asked, map, Came}
 use Rattle.tftp_promises.proofs.Common.{Contains-append_cases, IsAmong, opened_at, Request_answered}
-use Rattle.tftp_promises.proofs.Common.{Contains-append_left, Elsewhere, left_by, AnswersRequest}
-use Rattle.tftp_promises.proofs.Common.{Contains-append_right, Holding, is_ours, opened_ports, ClientProgram}
-use Rattle.tftp_promises.proofs.Common.{known_sink, known_source, IsUnblamed, files_of, option_to_list, At_server}
-use Rattle.tftp_promises.proofs.Common.{place, wire_text, Machine, Party, AreDistinct, length-append, above, opened_by}
+use Rattle.tftp_promises.proofs.Common.{Contains-append_left, Elsewhere, left_by, AnswersRequest, Contains-append_right}
+use Rattle.tftp_promises.proofs.Common.{Holding, is_ours, opened_ports, ClientProgram, known_sink, known_source}
+use Rattle.tftp_promises.proofs.Common.{IsUnblamed, files_of, option_to_list, At_server, place, wire_text, Machine}
+use Rattle.tftp_promises.proofs.Common.{Party, AreDistinct, length-append, above, opened_by, slice_get-map, option_map}
 use Rattle.tftp_promises.proofs.Common.{slice_get_read, ours_by, run, start, IsFromServer}
 use Rattle.tftp_rules.proofs.UnblamedEnds.{datagram_unblamed}
 use Rattle.tftp_promises.specs.Openings.{total}
 use Rattle.tftp_promises.proofs.Places.{placed_by, places, at_port}
-use Rattle.tftp_promises.proofs.Invariant.{IsFreshBy, ClientKept, HasArrived, IsKept, IsOfClient, IsOfTransfer}
-use Rattle.tftp_promises.proofs.Invariant.{IsViewed, SendsText, TransferKept, place_text}
-use Rattle.tftp_promises.proofs.Orders.{nothing_in, first_or_more, one_in}
+use Rattle.tftp_promises.proofs.Invariant.{IsFreshBy, HasArrived, IsKept, IsOfClient, IsOfTransfer, IsViewed, SendsText}
+use Rattle.tftp_promises.proofs.Invariant.{TransferKept, place_text}
+use Rattle.tftp_promises.proofs.Orders.{found_in, nothing_in, first_or_more, one_in}
 
 -- no number exceeds a sum of it and others
 pub total_most : (ns : List ℕ) (n : ℕ) → Contains ns n → n ≤ total ns
@@ -47,13 +48,9 @@ client_most : {G K : Type 0} {inputs : SourceMeaning G} {outputs : SinkMeaning K
     (clients : List (ClientProgram inputs outputs to)) (k : ℕ) (client : ClientProgram inputs outputs to) →
     slice_get clients k ≡ Some client →
     client.port ≤ total (map (λ (c : ClientProgram inputs outputs to). c.port) clients)
-client_most [] k client e = absurd (let f : None ≡ Some client = e in cc)
-client_most (x ∷ clients) zero client e =
-    let f : Some x ≡ Some client = e in
-    let same : x ≡ client = cc in
-    let port : x.port ≡ client.port = (λ i. (same i).port) in
-    omega (arith, port)
-client_most (x ∷ clients) (suc k) client e = let l = client_most clients k client e in omega (arith, l)
+client_most {inputs = inputs} {outputs = outputs} {to = to} clients k client e =
+    let port_of : ClientProgram inputs outputs to → ℕ = λ c. c.port in
+    total_most _ _ (found_in _ k _ (slice_get-map port_of clients k ∙ ap (option_map port_of) e))
 
 -- the port that a request opens is its own
 module _ {S F D : Type 0} {stores : StoreMeaning S D} {sources : SourceMeaning F} {old new : LoopState S F D}
@@ -91,8 +88,7 @@ module _ {S F D G K : Type 0} {stores : StoreMeaning S D} {sources : SourceMeani
   placed_cases : {first old new : LoopState S F D} (run : Run (LoopStep stores sources) first old)
       (does : LoopStep stores sources old new) (a : Endpoint) → Contains (placed_by programs run does) a →
       OpensOne (length (opened_ports run)) (ours_by programs does) (opened_by does) a
-  placed_cases run (Request_answered answers) a c =
-      answer_place answers.from (length (opened_ports run)) answers.left.opened.tid a c
+  placed_cases run (Request_answered answers) a c = answer_place _ _ _ a c
   placed_cases run does a c = absurd (nothing_in a c)
 
   -- of all that a run opened
@@ -100,17 +96,11 @@ module _ {S F D G K : Type 0} {stores : StoreMeaning S D} {sources : SourceMeani
       Contains (places programs run) a → OursAt (our_ports programs run) a ⊎ AsideAt (length (opened_ports run)) a
   place_cases Start a c = absurd (nothing_in a c)
   place_cases (Then run does) a c =
-      let long : length (opened_by does ++ opened_ports run) ≡ length (opened_by does) + length (opened_ports run) =
-      length-append (opened_by does) (opened_ports run) in
+      let long = length-append (opened_by does) (opened_ports run) in
       elim (Contains-append_cases (placed_by programs run does) (places programs run) a c) [
         | inl now ↦ elim (placed_cases run does a now) [
           | inl h ↦
-              inl (record {
-                port = h.port;
-                known = Contains-append_left (ours_by programs does) (our_ports programs
-                    run) h.port h.known;
-                is = h.is;
-              })
+              inl (search (Contains-append_left (ours_by programs does) (our_ports programs run) h.port h.known))
           | inr h ↦
               inr (record {
                 number = length (opened_ports run);
@@ -120,12 +110,7 @@ module _ {S F D G K : Type 0} {stores : StoreMeaning S D} {sources : SourceMeani
         ]
         | inr before ↦ elim (place_cases run a before) [
           | inl h ↦
-              inl (record {
-                port = h.port;
-                known = Contains-append_right (ours_by programs does) (our_ports programs
-                    run) h.port h.known;
-                is = h.is;
-              })
+              inl (search (Contains-append_right (ours_by programs does) (our_ports programs run) h.port h.known))
           | inr h ↦
               inr (record { number = h.number; earlier = (let l = h.earlier in omega (arith, long, l)); is = h.is })
         ]
@@ -143,23 +128,21 @@ module _ {S F D G K : Type 0} {stores : StoreMeaning S D} {sources : SourceMeani
     pub client_apart : (k : ℕ) (client : Client) → slice_get programs.clients k ≡ Some client → client_at client ≢ a
     client_apart k client found same = elim (place_cases snapshot.run a known) [
       | inl h ↦
-          fresh.ends.apart k h.port client found (Contains-append_right (programs.port ∷ [])
-          (our_ports programs snapshot.run) h.port h.known) (same ∙ h.is)
+          fresh.ends.apart k h.port client found (Contains-append_right (programs.port ∷ []) (our_ports programs
+          snapshot.run) h.port h.known) (same ∙ h.is)
       | inr h ↦
           let most = client_most programs.clients k client found in
-          let at : client.port ≡ above programs + h.number =
-          port_of (client_at client) (endpoint programs.ip (above programs + h.number)) (same ∙ h.is) in
+          let at : client.port ≡ above programs + h.number = port_of _ _ (same ∙ h.is) in
           omega (arith, most, at)
     ]
 
     pub at_server : (joined programs).host_of a ≡ At_server
     at_server = elim (place_cases snapshot.run a known) [
       | inl h ↦
-          there h.port h.is (fresh.ends.others h.port (Contains-append_right (programs.port ∷ [])
-          (our_ports programs snapshot.run) h.port h.known))
+          there h.port h.is (fresh.ends.others h.port (Contains-append_right (programs.port ∷ []) (our_ports programs
+          snapshot.run) h.port h.known))
       | inr h ↦
-          there (above programs + h.number) h.is
-          (λ other. let most = total_most programs.others (above programs + h.number) other in omega (arith, most))
+          there (above programs + h.number) h.is (λ other. let most = total_most _ _ other in omega (arith, most))
     ] where
       there : (port : ℕ) → a ≡ endpoint programs.ip port → (Contains programs.others port → ⊥) →
           (joined programs).host_of a ≡ At_server
@@ -188,32 +171,25 @@ module _ {S F D G K : Type 0} {stores : StoreMeaning S D} {sources : SourceMeani
         is_ours programs answers.from ≡ b → a ≢ endpoint programs.ip (if b then tid else above programs + count)
     place_before a c true is same = elim (place_cases old.run a c) [
       | inl h ↦
-          (none_twice (programs.port ∷ (tid ∷ our_ports programs old.run))
-          (subst (λ (ports : List ℕ). AreDistinct (programs.port ∷ ports)) (ports_are is) fresh.ends.server)).1.0 (subst (λ (p : ℕ). Contains (our_ports programs old.run) p)
-          (port_of (endpoint programs.ip h.port) (endpoint programs.ip tid) (sym h.is ∙ same)) h.known)
+          (none_twice (programs.port ∷ (tid ∷ our_ports programs old.run)) (rw (← ports_are is) fresh.ends.server)).1.0
+          (rw (← port_of (endpoint programs.ip h.port) (endpoint programs.ip tid) (sym h.is ∙ same)) h.known)
       | inr h ↦
           let low =
-          fresh.below tid (subst (λ (ports : List ℕ). Contains ports tid) (sym (ports_are is))
-          (Contains-append_left (tid ∷ []) (our_ports programs old.run) tid (Contains-push [] tid))) in
-          let at : above programs + h.number ≡ tid =
-          port_of (endpoint programs.ip (above programs + h.number)) (endpoint programs.ip tid)
-          (sym h.is ∙ same) in
+          fresh.below tid (rw ((ports_are is)) (Contains-append_left (tid ∷ []) (our_ports programs old.run) tid
+          (Contains-push [] tid))) in
+          let at = port_of _ _ (sym h.is ∙ same) in
           omega (arith, low, at)
     ]
     place_before a c false is same = elim (place_cases old.run a c) [
       | inl h ↦
           let low =
-          fresh.below h.port (Contains-append_right (ours_by programs (Request_answered answers))
-          (our_ports programs old.run) h.port h.known) in
-          let at : h.port ≡ above programs + count =
-          port_of (endpoint programs.ip h.port) (endpoint programs.ip (above programs + count))
-          (sym h.is ∙ same) in
+          fresh.below h.port (Contains-append_right (ours_by programs (Request_answered answers)) (our_ports programs
+          old.run) h.port h.known) in
+          let at = port_of _ _ (sym h.is ∙ same) in
           omega (arith, low, at)
       | inr h ↦
           let less = h.earlier in
-          let at : above programs + h.number ≡ above programs + count =
-          port_of (endpoint programs.ip (above programs + h.number))
-          (endpoint programs.ip (above programs + count)) (sym h.is ∙ same) in
+          let at = port_of _ _ (sym h.is ∙ same) in
           omega (arith, less, at)
     ]
 
@@ -226,8 +202,7 @@ module _ {S F D G K : Type 0} {stores : StoreMeaning S D} {sources : SourceMeani
 
   ours_opened : {old new : LoopState S F D} (does : LoopStep stores sources old new) (port : ℕ) →
       Contains (ours_by programs does) port → Contains (opened_by does) port
-  ours_opened (Request_answered answers) port c =
-      ours_here (is_ours programs answers.from) (option_to_list answers.left.opened.tid) port c
+  ours_opened (Request_answered answers) port c = ours_here _ _ _ c
   ours_opened does port c = c
 
   pub ours_among : {first last : LoopState S F D} (run : Run (LoopStep stores sources) first last) (port : ℕ) →
@@ -242,8 +217,7 @@ module _ {S F D G K : Type 0} {stores : StoreMeaning S D} {sources : SourceMeani
   -- the ports of the whole run are below the places of strangers' transfers
   pub below_above : (port : ℕ) → Contains (our_ports programs programs.server.run) port → port < above programs
   below_above port c =
-      let most =
-      total_most (opened_ports programs.server.run) port (ours_among programs.server.run port c) in omega (arith, most)
+      let most = total_most _ _ (ours_among programs.server.run port c) in omega (arith, most)
 
   -- a place where a transfer was is not taken again
   module _ (old : Snapshot programs) {new : LoopState S F D} where
@@ -254,15 +228,13 @@ module _ {S F D G K : Type 0} {stores : StoreMeaning S D} {sources : SourceMeani
     answered_again answers added fresh a c None is now = nothing_in a now
     answered_again answers added fresh a c (Some tid) is now =
         let own : tid ≡ answers.tid = own_tid answers tid is in
-        new_place old answers (ap option_to_list is ∙ ap (λ (t : ℕ). t ∷ []) own) added fresh a c
-        (sym (one_in a (place programs (length (opened_ports old.run)) answers.from tid) now)
+        new_place old answers (ap option_to_list is ∙ ap (λ (t : ℕ). t ∷ []) own) added fresh a c (sym (one_in a _ now)
         ∙ ap (place programs (length (opened_ports old.run)) answers.from) own)
 
     pub not_again : (does : LoopStep stores sources old.state new) (added : List SocketEvent) →
         IsFreshBy (server_did old does added) → (a : Endpoint) → Contains (places programs old.run) a →
         Contains (placed_by programs old.run does) a → ⊥
-    not_again (Request_answered answers) added fresh a c now =
-        answered_again answers added fresh a c answers.left.opened.tid refl now
+    not_again (Request_answered answers) added fresh a c now = answered_again _ _ fresh a c _ refl now
     not_again does added fresh a c now = nothing_in a now
 
 -- What an end of the programs receives makes it blame no peer that is no stranger.
@@ -297,11 +269,9 @@ module _ {S F D G K : Type 0} {stores : StoreMeaning S D} {sources : SourceMeani
 
     of_client : IsOfClient programs snapshot.clients view.address → wire_text mode text.file ≡ (ends from).text
     of_client h =
-        let own : ClientKept programs pad kept.views kept.messages h.client h.s h.files h.moved =
-        kept.clients h.k h.client (Has_asked h.s h.files h.noted h.moved) h.found h.is_stage in
-        let at : from ≡ client_at h.client = sym here ∙ h.address in
-        same_text own.end own.viewed (at ∙ sym own.address) (λ s.
-        text.client h.k h.client h.found at ∙ sym (own.has.text s))
+        let own = kept.clients h.k h.client (Has_asked h.s h.files h.noted h.moved) h.found h.is_stage in
+        let at = sym here ∙ h.address in
+        search std_rules
 
     of_transfer : IsOfTransfer snapshot view.address → wire_text mode text.file ≡ (ends from).text
     of_transfer h =
@@ -310,14 +280,10 @@ module _ {S F D G K : Type 0} {stores : StoreMeaning S D} {sources : SourceMeani
         let at : from ≡ own.end.address = sym here ∙ sym own.address in
         let known = kept.server.opened h.port h.transfer view.address h.is_transfer in
         same_text own.end own.viewed at (λ s.
-        let opened : opened_at programs from programs.server.run ≡ Some own.has.opened.opening =
-        ap (λ (a : Endpoint). opened_at programs a programs.server.run) (sym here)
-        ∙ (sym (fresh.told view.address known).opened
-        ∙ (ap (λ (a : Endpoint). opened_at programs a snapshot.run) (sym own.address) ∙ own.has.opened.opened)) in
-        text.transfer
-        (λ k client found same. client_apart programs snapshot fresh view.address known k client found (sym (here ∙ same)))
-        own.has.opened.opening opened
-        ∙ (ap (place_text programs pad) at ∙ sym (own.has.text s)))
+        let opened : opened_at programs from programs.server.run ≡ Some own.has.opened.opening = search std_rules steps
+        300000 in
+        text.transfer (λ k client found same. client_apart programs snapshot fresh view.address known k client found
+        (sym (here ∙ same))) own.has.opened.opening opened ∙ (ap (place_text programs pad) at ∙ sym (own.has.text s)))
 
   -- what a peer sends can be read, if it is the text of a file
   readable : (from : Endpoint) (mode : Mode) → SendsText programs pad from mode → (ends from).is_open ≡ true →
@@ -342,6 +308,5 @@ module _ {S F D G K : Type 0} {stores : StoreMeaning S D} {sources : SourceMeani
       IsUnblamed (joined programs) (SendsText programs pad) kept.messages (after_turn x.state turn)
   turn_unblamed x viewed still apart from bytes come spelled serves turn held steps =
       datagram_unblamed (joined programs) (SendsText programs pad) kept.shown.0 kept.views kept.messages kept.shown.1
-      viewed.index x viewed.viewed viewed.kept still viewed.unblamed apart from bytes
-      (λ own. let p = spelled own in (p.0, p.1, come p.0 p.1)) serves
-      (λ own text is_open sends. readable from x.state.role.mode text is_open sends) turn held steps
+      viewed.index x viewed.viewed viewed.kept still viewed.unblamed apart from bytes (λ own. let p = spelled own
+      in (p.0, p.1, come p.0 p.1)) serves (λ own text is_open sends. readable _ _ text is_open sends) turn held steps

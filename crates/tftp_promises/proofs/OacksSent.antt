@@ -1,20 +1,22 @@
 -- Each OACK that a server sent opened a transfer: it is the first datagram of one, and was sent to where its request
 -- came from. For the law a_client_ends_for_a_reason.
+use Rattle.std.proofs.lemmas.Grind.{common_steps}
+use Rattle.std.proofs.Common.{arith, rules as std_rules}
 use Rattle.tftp_promises.proofs.Common.{List, ℕ, ◌≡◌, rules, sym, Endpoint, refl, [], ◌∙◌, ap, SourceMeaning, Some}
 use Rattle.tftp_promises.proofs.Common.{subst, inl, StoreMeaning, inr, ◌∷◌, true, None, ◌++◌, ◌⊎◌, SocketEvent, Option}
 use Rattle.tftp_promises.proofs.Common.{true≢false, LoopState, TransferState, LoopStep, Sent, Received, at, Run, Mode}
-use Rattle.tftp_promises.proofs.Common.{Then, Start, ServerState, Reply, Elapsed, timeout_turn, A_transfer, IsBlockSize}
-use Rattle.tftp_promises.proofs.Common.{append_cancel_right, Watched, Quiet, Act, drafting_sink, Came, PortStep}
-use Rattle.tftp_promises.proofs.Common.{append_assoc, answered, state_is, PortState, left_by, Nothing, Left, Has}
-use Rattle.tftp_promises.proofs.Common.{AnswersRequest, error_bytes, acts_at, port_state, Error_reply, Said, At_port}
+use Rattle.tftp_promises.proofs.Common.{Then, Start, Reply, timeout_turn, A_transfer, IsBlockSize, append_cancel_right}
+use Rattle.tftp_promises.proofs.Common.{drafting_sink, Came, PortStep, append_assoc, answered, state_is, PortState}
+use Rattle.tftp_promises.proofs.Common.{left_by, Nothing, Has, AnswersRequest, acts_at, Error_reply, Said, At_port}
 use Rattle.tftp_promises.proofs.Common.{A_datagram, Opening, Work, A_timeout, trace_is, StoreOpened, Request_lost}
 use Rattle.tftp_promises.proofs.Common.{has_opcode, Waited, after_request, Store_set}
+use Rattle.tftp_lives.proofs.OneOrder.{has_last}
 use Rattle.tftp_lives.proofs.NewestSaid.{IsPlain, datagram_plain, newest_said, timeout_plain}
 use Rattle.tftp_loop.specs.Steps.LoopStep.{Request_answered}
 use Rattle.tftp_promises.specs.Given.{StoreOpens}
 use Rattle.tftp_promises.proofs.StepEvents.{step_adds}
 use Rattle.tftp_promises.proofs.TransferLives.{run_config, transfers_live}
-use Rattle.tftp_promises.proofs.TransferTraces.{transfers_noted, all_is, all_of, has_later, sent_in}
+use Rattle.tftp_promises.proofs.TransferTraces.{transfers_noted, all_is, all_of, sent_in}
 use Rattle.tftp_promises.proofs.Orders.{IsUnsent}
 use Rattle.tftp_promises.proofs.Places.{run_requests}
 
@@ -49,9 +51,7 @@ module _ {before : List SocketEvent} {Holds : Endpoint → List ℕ → Type 0} 
     sent = λ port to bytes there oack. elim there [
       | inl same ↦
           let parts = same_to at port to goes content bytes same in
-          subst (λ (a : Endpoint). Holds a bytes) parts.0
-          (subst (λ (b : List ℕ). Holds goes b) parts.1
-          (holds (ap (has_opcode 6) parts.1 ∙ oack)))
+          rw (← parts.0) (subst (λ (b : List ℕ). Holds goes b) parts.1 (holds (ap (has_opcode 6) parts.1 ∙ oack)))
       | inr old ↦ h.sent port to bytes old oack
     ];
   }
@@ -122,11 +122,8 @@ module _ {S F D : Type 0} (stores : StoreMeaning S D) (sources : SourceMeaning F
         config = h.config;
         stored = λ path request mode opening asked. inr (h.stored path request mode opening asked);
         noted = adds.0 ++ h.noted;
-        is =
-            adds.1
-            ∙ (ap (λ (es : List SocketEvent). adds.0 ++ es) h.is ∙ sym (append_assoc adds.0 h.noted start.events));
-        received =
-            has_later (Received start.requests h.answers.from h.answers.bytes) adds.0 h.noted h.received;
+        is = grind (arith, common_steps);
+        received = has_last (Received start.requests h.answers.from h.answers.bytes) adds.0 h.noted h.received;
       }
 
   -- what is known at each time of a run
@@ -155,8 +152,7 @@ module _ {S F D : Type 0} (stores : StoreMeaning S D) (sources : SourceMeaning F
         IsBlockSize start.server.config.limits.max_block → at port old.server.held ≡ Some transfer →
         (reply : Option Reply) → IsPlain transfer.end reply → (r : Reply) → reply ≡ Some r →
         has_opcode 6 r.bytes ≡ true → Now r.to r.bytes
-    again port transfer none max found reply plain r is oack =
-        by_plain (subst (IsPlain transfer.end) is plain)
+    again port transfer none max found reply plain r is oack = by_plain (subst (IsPlain transfer.end) is plain)
       where
         by_plain : IsPlain transfer.end (Some r) → Now r.to r.bytes
         by_plain (inl differs) = absurd (true≢false (sym oack ∙ differs))
@@ -164,14 +160,13 @@ module _ {S F D : Type 0} (stores : StoreMeaning S D) (sources : SourceMeaning F
             let living = transfers_live stores sources run none max port transfer found in
             let told = transfers_noted stores sources start none max port run in
             let said : Has (Said r.to r.bytes) (acts_at port run) =
-            subst (λ (act : Act). Has act (acts_at port run)) (sym same)
-            (newest_said sources (drafting_sink stores) living.life) in
+            rw (same) (newest_said sources (drafting_sink stores) living.life) in
             let there = sent_in port start.events told r.to r.bytes said in
             let noted = all_of port start.events told in
             let one : noted ≡ h.so.noted =
             append_cancel_right noted h.so.noted start.events (sym (all_is port start.events told) ∙ h.so.is) in
             opened_still run does r.to r.bytes
-            (h.so.sent port r.to r.bytes (subst (λ (es : List SocketEvent). Has (Sent port r.to r.bytes) es) one there)
+            (h.so.sent port r.to r.bytes (rw (← one) there)
             oack)
 
   -- at the port of a transfer
@@ -182,47 +177,33 @@ module _ {S F D : Type 0} (stores : StoreMeaning S D) (sources : SourceMeaning F
       AreSo start.events (IsOpenedBy (Then run does)) after.events
   port_so {old} run does h none max now before after server events (A_datagram d) =
       let takes = d.handles.takes in
-      let from_old = so_same old.events before.events events (so_far run does h) in
-      so_same _ after.events d.handles.events
-      (so_answers before.timer.port takes.takes.turn.reply
-      (Received before.timer.port d.from d.bytes ∷ before.events)
-      (again run does h before.timer.port takes.transfer none max
-      (ap (λ (s : ServerState S F D). at before.timer.port s.held) (sym server) ∙ takes.found) takes.takes.turn.reply
-      (datagram_plain sources (drafting_sink stores) d.from d.bytes takes.transfer.end takes.takes.turn _ _
-      takes.takes.steps))
-      (on run does h (Received before.timer.port d.from d.bytes) before.events tt from_old))
+      let from_old = so_same _ _ events (so_far _ does h) in
+      so_same _ _ d.handles.events (so_answers before.timer.port _ _ (again _ does h _ _ none max (ap (λ s. at
+      before.timer.port s.held) (sym server) ∙ takes.found) _ (datagram_plain sources (drafting_sink stores) d.from
+      d.bytes takes.transfer.end takes.takes.turn _ _ takes.takes.steps)) (on _ does h _ _ tt from_old))
   port_so {old} run does h none max now before after server events (A_timeout d) =
       let times_out = d.times_out.times_out in
       let reply = (timeout_turn times_out.transfer.end).reply in
-      so_same _ after.events d.times_out.events
-      (so_answers before.timer.port reply
-      (Elapsed before.timer.port now ∷ before.events)
-      (again run does h before.timer.port times_out.transfer none max
-      (ap (λ (s : ServerState S F D). at before.timer.port s.held) (sym server) ∙ times_out.found) reply
-      (timeout_plain times_out.transfer.end))
-      (on run does h (Elapsed before.timer.port now) before.events tt
-      (so_same old.events before.events events (so_far run does h))))
+      so_same _ _ d.times_out.events (so_answers before.timer.port _ _ (again _ does h _ _ none max (ap (λ s. at
+      before.timer.port s.held) (sym server) ∙ times_out.found) _ (timeout_plain times_out.transfer.end)) (on _ does h _
+      _ tt (so_same _ _ events (so_far _ does h))))
   port_so {old} run does h none max now before after server events (Work d) =
-      so_same old.events after.events (d.events ∙ events) (so_far run does h)
+      so_same _ _ (d.events ∙ events) (so_far _ does h)
   port_so {old} run does h none max now before after server events step =
-      so_same _ after.events (trace_is step) (on run does h _ before.events tt
-      (so_same old.events before.events events (so_far run does h)))
+      so_same _ _ (trace_is step) (on _ does h _ _ tt (so_same _ _ events (so_far _ does h)))
 
   -- the answer to a request
   came_so : {old new : LoopState S F D} (run : Run (LoopStep stores sources) start old)
       (d : AnswersRequest stores sources old new) (h : Known run) (came : Came S F D) → d.steps.came ≡ came →
       AreSo start.events (IsOpenedBy (Then run (Request_answered d)))
       (after_request old d.from (left_by came old.server d.from d.tid)).events
-  came_so run d h Nothing is = so_far run (Request_answered d) h
+  came_so run d h Nothing is = so_far _ (Request_answered d) h
   came_so {old} run d h (Error_reply reply store) is =
-      so_says old.requests d.from (error_bytes reply) old.events
-      (λ oack. absurd (true≢false (sym oack))) (so_far run (Request_answered d) h)
+      so_says old.requests _ _ _ (λ oack. absurd (true≢false (sym oack))) (so_far _ (Request_answered d) h)
   came_so {old} {new} run d h (A_transfer transfer store) is =
       let adds = step_adds (Request_answered d) in
       let before = h.so in
-      so_says d.tid d.from transfer.end.position.last_sent
-      old.events
-      (λ oack. record {
+      so_says d.tid _ _ _ (λ oack. record {
         old = old;
         new = new;
         answers = d;
@@ -231,39 +212,31 @@ module _ {S F D : Type 0} (stores : StoreMeaning S D) (sources : SourceMeaning F
         store = store;
         came = is;
         first = refl;
-        config = run_config stores sources run;
+        config = run_config _ _ run;
         stored = λ path request mode opening asked. inl asked;
         noted = adds.0 ++ before.noted;
-        is =
-            adds.1
-            ∙ (ap (λ (es : List SocketEvent). adds.0 ++ es) before.is
-            ∙ sym (append_assoc adds.0 before.noted start.events));
+        is = adds.1 ∙ (ap (λ es. adds.0 ++ es) before.is ∙ sym (append_assoc adds.0 before.noted start.events));
         received =
-            has_later (Received start.requests d.from d.bytes) adds.0 before.noted (h.pending d.from d.bytes d.pending);
-      }) (so_far run (Request_answered d) h)
+            has_last (Received start.requests d.from d.bytes) adds.0 before.noted (h.pending d.from d.bytes d.pending);
+      }) (so_far _ (Request_answered d) h)
 
   -- ---- along a run
   step_so : {old new : LoopState S F D} (run : Run (LoopStep stores sources) start old)
       (does : LoopStep stores sources old new) → Known run → start.server.held ≡ [] →
       IsBlockSize start.server.config.limits.max_block → AreSo start.events (IsOpenedBy (Then run does)) new.events
   step_so {old} {new} run (Waited d) h none max =
-      so_same _ new.events (ap (λ (s : LoopState S F D). s.events) d.is) (on run (Waited d) h (Quiet _) _ tt
-      (on run (Waited d) h (Quiet _) _ tt
-      (on run (Waited d) h (Watched d.watch) old.events tt (so_far run (Waited d) h))))
+      so_same _ _ (ap (λ s. s.events) d.is) (on _ (Waited d) h _ _ tt (on _ (Waited d) h _ _ tt (on _ (Waited d) h _ _
+      tt (so_far _ (Waited d) h))))
   step_so {old} {new} run (At_port d) h none max =
-      so_same d.next.events new.events (ap (λ (s : LoopState S F D). s.events) d.is)
-      (port_so run (At_port d) h none max old.now (port_state old d.timer) d.next refl refl d.does)
+      so_same _ _ (ap (λ s. s.events) d.is) (port_so _ (At_port d) h none max _ _ _ refl refl d.does)
   step_so {old} {new} run (Request_answered d) h none max =
-      so_same _ new.events (ap (λ (s : LoopState S F D). s.events) d.is) (subst
-      (λ (left : Left S F D). AreSo start.events (IsOpenedBy (Then run (Request_answered d)))
-      (after_request old d.from left).events) (sym d.steps.left) (came_so run d h d.steps.came refl))
+      so_same _ _ (ap (λ s. s.events) d.is) (subst (λ left. AreSo start.events (IsOpenedBy (Then run (Request_answered
+      d))) (after_request old d.from left).events) (sym d.steps.left) (came_so _ d h _ refl))
   step_so {old} {new} run (Request_lost d) h none max =
-      so_same old.events new.events (ap (λ (s : LoopState S F D). s.events) d.is) (so_far run (Request_lost d) h)
-  step_so {old} {new} run (Store_set d) h none max =
-      so_same old.events new.events (ap (λ (s : LoopState S F D). s.events) d.is) (so_far run (Store_set d) h)
+      so_same _ _ (ap (λ s. s.events) d.is) (so_far _ (Request_lost d) h)
+  step_so {old} {new} run (Store_set d) h none max = so_same _ _ (ap (λ s. s.events) d.is) (so_far _ (Store_set d) h)
   step_so {old} {new} run does h none max =
-      so_same _ new.events (ap (λ (s : LoopState S F D). s.events) (state_is does))
-      (on run does h _ old.events tt (so_far run does h))
+      so_same _ _ (ap (λ s. s.events) (state_is does)) (on _ does h _ _ tt (so_far _ does h))
 
   known_still : {old new : LoopState S F D} (run : Run (LoopStep stores sources) start old)
       (does : LoopStep stores sources old new) → Known run → start.server.held ≡ [] →
@@ -272,33 +245,25 @@ module _ {S F D : Type 0} (stores : StoreMeaning S D) (sources : SourceMeaning F
       let so = step_so run does h none max in
       let adds = step_adds does in
       let noted_is : so.noted ≡ adds.0 ++ h.so.noted =
-      append_cancel_right so.noted (adds.0 ++ h.so.noted) start.events
-      (sym so.is
-      ∙ (adds.1
-      ∙ (ap (λ (es : List SocketEvent). adds.0 ++ es) h.so.is
-      ∙ sym (append_assoc adds.0 h.so.noted start.events)))) in
+      append_cancel_right so.noted (adds.0 ++ h.so.noted) start.events (sym so.is ∙ (adds.1 ∙ (ap (λ (es : List
+      SocketEvent). adds.0 ++ es) h.so.is ∙ sym (append_assoc adds.0 h.so.noted start.events)))) in
       record {
         so = so;
         pending = λ from bytes is. elim (step_pends stores sources does from bytes is) [
           | inl before ↦
-              subst (λ (es : List SocketEvent). Has (Received start.requests from bytes) es) (sym noted_is)
-              (has_later (Received start.requests from bytes) adds.0 h.so.noted (h.pending from bytes before))
+              rw (noted_is) (has_last (Received start.requests from bytes) adds.0 h.so.noted (h.pending from bytes
+              before))
           | inr now ↦
               let all : so.noted ≡ Received old.requests from bytes ∷ h.so.noted =
-              append_cancel_right so.noted (Received old.requests from bytes ∷ h.so.noted) start.events
-              (sym so.is
-              ∙ (now ∙ ap (λ (es : List SocketEvent). Received old.requests from bytes ∷ es) h.so.is)) in
-              subst (λ (es : List SocketEvent). Has (Received start.requests from bytes) es) (sym all)
-              (inl (ap (λ (p : ℕ). Received p from bytes) (run_requests run)))
+              append_cancel_right so.noted (Received old.requests from bytes ∷ h.so.noted) start.events (sym so.is ∙
+              (now ∙ ap (λ (es : List SocketEvent). Received old.requests from bytes ∷ es) h.so.is)) in
+              rw (all) (inl (ap (λ (p : ℕ). Received p from bytes) (run_requests run)))
         ];
       }
 
   oacks_open : {now : LoopState S F D} (run : Run (LoopStep stores sources) start now) → start.pending ≡ None →
       start.server.held ≡ [] → IsBlockSize start.server.config.limits.max_block → Known run
-  oacks_open Start idle none max = record {
-    so = record { noted = []; is = refl; sent = λ port to bytes there oack. absurd there };
-    pending = λ from bytes is. absurd (let f : None ≡ Some (from, bytes) = sym idle ∙ is in cc);
-  }
+  oacks_open Start idle none max = search std_rules
   oacks_open (Then run does) idle none max = known_still run does (oacks_open run idle none max) none max
 
   -- so it is of each that it noted
@@ -308,6 +273,5 @@ module _ {S F D : Type 0} (stores : StoreMeaning S D) (sources : SourceMeaning F
       Has (Sent port to bytes) noted → has_opcode 6 bytes ≡ true → IsOpenedBy run to bytes
   oack_opens run idle none max noted is port to bytes there oack =
       let known = oacks_open run idle none max in
-      let same : noted ≡ known.so.noted =
-      append_cancel_right noted known.so.noted start.events (sym is ∙ known.so.is) in
+      let same = append_cancel_right noted known.so.noted start.events (sym is ∙ known.so.is) in
       known.so.sent port to bytes (subst (λ (es : List SocketEvent). Has (Sent port to bytes) es) same there) oack

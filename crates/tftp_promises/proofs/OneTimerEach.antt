@@ -1,23 +1,25 @@
 -- How many elements of a list, and how many entries of a table, have a port.
+use Rattle.std.proofs.lemmas.Grind.{common_steps}
 use Rattle.tftp_promises.proofs.Common.{List, ℕ, ◌≡◌, rules, sym, Endpoint, refl, [], ◌∙◌, ap, SourceMeaning, Some}
 use Rattle.tftp_promises.proofs.Common.{subst, inl, StoreMeaning, inr, ◌∷◌, false, true, None, ◌++◌, Bool, ◌⊎◌}
 use Rattle.tftp_promises.proofs.Common.{Contains, SocketEvent, Option, arith, LoopState, length, slice_get}
 use Rattle.tftp_promises.proofs.Common.{TransferState, LoopStep, at, Run, suc, Then, Start, ServerState, zero, ◌≤◌, ◌<◌}
 use Rattle.tftp_promises.proofs.Common.{cases_eq, ◌+◌, A_transfer, eq-eqb, map, Came, PortStep, with_next, state_is}
-use Rattle.tftp_promises.proofs.Common.{PortState, left_by, Nothing, Left, port_state, Error_reply, ne_eqb, At_port}
+use Rattle.tftp_promises.proofs.Common.{PortState, left_by, Nothing, port_state, Error_reply, ne_eqb, At_port}
 use Rattle.tftp_promises.proofs.Common.{A_datagram, Work, A_timeout, KeepsHeld, server_is, Transfer_closed, WorksAt}
 use Rattle.tftp_promises.proofs.Common.{Backoff, without, with_new, IsSome, A_lost_datagram, at_start, LoopConfig}
 use Rattle.tftp_promises.proofs.Common.{Waited, is_at, cond, nat_cmp, Timer, slice_set, slice_index_or, Equal, Ordering}
-use Rattle.tftp_promises.proofs.Common.{is_eq, stays_at, match_ordering, Less, Greater, slice_get_read, same_Some}
-use Rattle.std.proofs.Common.{eqb}
+use Rattle.tftp_promises.proofs.Common.{⊤, true≢false, numbers, is_eq, stays_at, match_ordering, Less, Greater}
+use Rattle.tftp_promises.proofs.Common.{slice_get_read, same_Some}
+use Rattle.std.proofs.Common.{eqb, arith as std_arith, rules as std_rules}
 use Rattle.std.specs.List.{swap_remove, sum_by}
 use Rattle.std.specs.Map.{lookup, remove_entry, set_value}
 use Rattle.std.specs.BTreeMap.{insert_entry}
-use Rattle.std.proofs.lemmas.Bool.Decides.{nat_tests}
 use Rattle.std.proofs.lemmas.List.Sums.{sum_by-cons, sum_by-swap_remove}
+use Rattle.tftp_rules.proofs.Entries.{at_same, same_at}
 use Rattle.tftp_ends.specs.declared.record.Record.{Record}
 use Rattle.tftp_server.specs.State.{taken_of}
-use Rattle.tftp_loop.specs.Steps.{marked_by, set_by, with_timer, interval_at, started}
+use Rattle.tftp_loop.specs.Steps.{with_timer}
 use Rattle.tftp_loop.specs.Steps.LoopStep.{Request_answered}
 use Rattle.tftp_promises.specs.Timers.{HasOneTimerEach, timer_ports}
 
@@ -45,9 +47,7 @@ module _ {X : Type 0} (port_of : X → ℕ) where
   pub hits_map : (port : ℕ) (xs : List X) (f : X → X) → ((x : X) → port_of (f x) ≡ port_of x) →
       hits port (map f xs) ≡ hits port xs
   hits_map port [] f same = refl
-  hits_map port (x ∷ xs) f same =
-      ap (λ (p : ℕ). hit port p + hits port (map f xs)) (same x) ∙ ap (λ (n : ℕ). hit port (port_of x) + n)
-      (hits_map port xs f same)
+  hits_map port (x ∷ xs) f same = search (std_rules, map, hits_map port xs f same)
 
   hits_sum : (port : ℕ) (xs : List X) → hits port xs ≡ sum_by (λ x. hit port (port_of x)) xs
   hits_sum port [] = refl
@@ -67,19 +67,13 @@ module _ {X : Type 0} (port_of : X → ℕ) where
   -- an element with the port
   pub hits_at : (port : ℕ) (xs : List X) (i : ℕ) → slice_get (map port_of xs) i ≡ Some port → 0 < hits port xs
   hits_at port [] i e = absurd (let f : None ≡ Some port = e in cc)
-  hits_at port (x ∷ xs) zero e =
-      let same : port_of x ≡ port = (let f : Some (port_of x) ≡ Some port = e in cc) in
-      let one : hit port (port_of x) ≡ 1 = ap (hit port) same ∙ hit_same port in
-      omega (arith, one)
+  hits_at port (x ∷ xs) zero e = search std_rules
   hits_at port (x ∷ xs) (suc i) e = let more = hits_at port xs i e in omega (arith, more)
 
   -- the port of the first element is not there again, if it is there once
   hit_again : (x : X) (xs : List X) (k port : ℕ) → Some (port_of x) ≡ Some port →
       slice_get (map port_of xs) k ≡ Some port → hits port (x ∷ xs) ≤ 1 → ⊥
-  hit_again x xs k port e f most =
-      let one : hit port (port_of x) ≡ 1 = ap (hit port) (same_Some (port_of x) port e) ∙ hit_same port in
-      let more = hits_at port xs k f in
-      omega (arith, one, more, most)
+  hit_again x xs k port e f most = search (std_rules, same_Some, hit_same, hits_at)
 
   -- if no port is there twice, one port is at one index
   pub hits_apart : (xs : List X) → ((port : ℕ) → hits port xs ≤ 1) → (j k port : ℕ) →
@@ -93,8 +87,7 @@ module _ {X : Type 0} (port_of : X → ℕ) where
 
   pub hits_contained : (port : ℕ) (xs : List X) (k : ℕ) → k < length (map port_of xs) →
       slice_index_or (map port_of xs) k port ≡ port → 0 < hits port xs
-  hits_contained port xs k l e =
-      hits_at port xs k (slice_get_read (map port_of xs) (length (map port_of xs)) k port refl l (sym e))
+  hits_contained port xs k l e = search (std_rules, hits_at, slice_get_read, map, length)
 
   pub contains_hit : (port : ℕ) (xs : List X) → 0 < hits port xs → Contains (map port_of xs) port
   contains_hit port [] h = absurd (omega (arith, h))
@@ -107,16 +100,14 @@ module _ {X : Type 0} (port_of : X → ℕ) where
   ]
 
 -- ---- in a table
-compares : (tid key : ℕ) (o : Ordering) → nat_cmp tid key ≡ o → is_eq o ≡ true → tid ≡ key
-compares tid key o e = grind (arith, nat_tests)
-
-differs : (tid key : ℕ) (o : Ordering) → nat_cmp tid key ≡ o → is_eq o ≡ false → tid ≡ key → ⊥
-differs tid key o e = grind (arith, nat_tests)
-
 module _ {T : Type 0} where
   -- how many entries have the key
   abbrev pub keyed : ℕ → List (ℕ × T) → ℕ
   keyed = hits (λ (e : ℕ × T). e.0)
+
+  -- no key is there twice
+  abbrev pub AreKeyedOnce : List (ℕ × T) → Type 0
+  AreKeyedOnce held = (port : ℕ) → keyed port held ≤ 1
 
   keyed_absent_at : (b : Bool) (port : ℕ) (e : ℕ × T) (n : ℕ) (m : Option T) → (b ≡ false → port ≡ e.0 → ⊥) →
       (m ≡ None → n ≡ 0) → cond b (Some e.1) m ≡ None → hit port e.0 + n ≡ 0
@@ -127,7 +118,7 @@ module _ {T : Type 0} where
   keyed_absent port [] h = refl
   keyed_absent port (e ∷ held) h =
       keyed_absent_at (is_eq (nat_cmp port e.0)) port e (keyed port held) (lookup (is_at (nat_cmp port)) held)
-      (differs port e.0 (nat_cmp port e.0) refl) (keyed_absent port held) h
+      (λ f same. true≢false (sym (at_same numbers port e.0 (sym same)) ∙ f)) (keyed_absent port held) h
 
   keyed_present_at : (b : Bool) (port : ℕ) (e : ℕ × T) (n : ℕ) (m : Option T) → (b ≡ true → port ≡ e.0) →
       (IsSome m → 0 < n) → IsSome (cond b (Some e.1) m) → 0 < hit port e.0 + n
@@ -138,7 +129,7 @@ module _ {T : Type 0} where
   keyed_present port [] h = absurd (cc)
   keyed_present port (e ∷ held) h =
       keyed_present_at (is_eq (nat_cmp port e.0)) port e (keyed port held) (lookup (is_at (nat_cmp port)) held)
-      (compares port e.0 (nat_cmp port e.0) refl) (keyed_present port held) h
+      (λ h. sym (same_at numbers port e.0 h)) (keyed_present port held) h
 
   found : (port : ℕ) (held : List (ℕ × T)) (o : Option T) → lookup (is_at (nat_cmp port)) held ≡ o →
       0 < keyed port held → IsSome o
@@ -153,12 +144,8 @@ module _ {T : Type 0} where
       → keyed port (match_ordering o ((tid, v) ∷ e ∷ held) ((e.0, v) ∷ held) (e ∷ more)) ≡ hit port tid + keyed port
       (e ∷ held)
   keyed_inserted_at Less port tid v e held more o absent rest = refl
-  keyed_inserted_at Equal port tid v e held more o absent rest =
-      let there : lookup (is_at (nat_cmp tid)) (e ∷ held) ≡ Some e.1 = rw o refl in absurd (cc)
-  keyed_inserted_at Greater port tid v e held more o absent rest =
-      let there : lookup (is_at (nat_cmp tid)) held ≡ None = rw o at absent in
-      let one = rest there in
-      omega (arith, one)
+  keyed_inserted_at Equal port tid v e held more o absent rest = search std_rules
+  keyed_inserted_at Greater port tid v e held more o absent rest = search std_rules
 
   pub keyed_inserted : (port tid : ℕ) (v : T) (held : List (ℕ × T)) → lookup (is_at (nat_cmp tid)) held ≡ None →
       keyed port (insert_entry nat_cmp held tid v) ≡ hit port tid + keyed port held
@@ -187,7 +174,7 @@ module _ {T : Type 0} where
   keyed_removed port tid [] h = absurd (cc)
   keyed_removed port tid (e ∷ held) h =
       keyed_removed_at (is_eq (nat_cmp tid e.0)) port tid e held (remove_entry (is_at (nat_cmp tid)) held)
-      (lookup (is_at (nat_cmp tid)) held) (compares tid e.0 (nat_cmp tid e.0) refl) (keyed_removed port tid held) h
+      (lookup (is_at (nat_cmp tid)) held) (λ h. sym (same_at numbers tid e.0 h)) (keyed_removed port tid held) h
 
 -- At each time of a run each held transfer has one timer.
 
@@ -195,11 +182,11 @@ module _ {T : Type 0} where
 abbrev timed : ℕ → List Timer → ℕ
 timed = hits (λ (timer : Timer). timer.port)
 
-module _ {F D : Type 0} where
-  -- as many timers as transfers have a port, and one at most
+module _ {F D : Type 0} (IsExact : Type 0) where
+  -- one transfer at most has a port, and as many timers, if it was so at first
   record AreMatched (timers : List Timer) (held : List (ℕ × TransferState F D)) : Type 0 where
-    pub same : (port : ℕ) → timed port timers ≡ keyed port held
-    pub most : (port : ℕ) → keyed port held ≤ 1
+    pub same : IsExact → (port : ℕ) → timed port timers ≡ keyed port held
+    pub most : AreKeyedOnce held
 
   -- the same numbers
   stays_matched : (timers timers' : List Timer) (held held' : List (ℕ × TransferState F D)) →
@@ -222,9 +209,10 @@ module _ {F D : Type 0} where
   closes_matched timers held index timer within is there matched =
       search (rules, hits_swap_removed, keyed_removed)
 
-  -- what was taken was there
-  was_there : (o : Option (TransferState F D)) (taken : Record × Option D) → taken_of o ≡ Some taken → IsSome o
-  was_there o taken e = search rules
+-- what was taken was there
+pub was_there : {F D : Type 0} (o : Option (TransferState F D)) (taken : Record × Option D) → taken_of o ≡ Some taken →
+    IsSome o
+was_there o taken e = search rules
 
 module _ {S F D : Type 0} (stores : StoreMeaning S D) (sources : SourceMeaning F) where
   -- a step at a port leaves the transfers, or has another one in the place of that at the port
@@ -242,79 +230,77 @@ module _ {S F D : Type 0} (stores : StoreMeaning S D) (sources : SourceMeaning F
   pub port_held : (now : ℕ) (old new : PortState S F D) → PortStep stores sources now old new →
       LeavesHeld old.timer.port old.server.held new.server.held
   port_held now old new (A_datagram d) = inr (d.handles.takes.next, d.handles.takes.held)
-  port_held now old new (A_lost_datagram d) =
-      keeps_held old.timer.port (at old.timer.port old.server.held) old.server new.server (inl d.loses.keeps)
+  port_held now old new (A_lost_datagram d) = keeps_held _ _ _ _ (inl d.loses.keeps)
   port_held now old new (A_timeout d) =
       inr (record d.times_out.times_out.transfer { end = d.times_out.times_out.end }, d.times_out.times_out.held)
-  port_held now old new (Work d) =
-      keeps_held old.timer.port (at old.timer.port old.server.held) old.server new.server (inr d.works.works)
-  port_held now old new does = inl (ap (λ (s : ServerState S F D). s.held) (server_is does))
+  port_held now old new (Work d) = keeps_held _ _ _ _ (inr d.works.works)
+  port_held now old new does = inl (ap (λ s. s.held) (server_is does))
 
   -- so it keeps the ports of all transfers
   port_keys : (now : ℕ) (old new : PortState S F D) → PortStep stores sources now old new → (p : ℕ) →
       keyed p new.server.held ≡ keyed p old.server.held
   port_keys now old new does p = search (rules, port_held, keyed_set)
 
+module _ {S F D : Type 0} (stores : StoreMeaning S D) (sources : SourceMeaning F) (IsExact : Type 0) where
   -- what the request port leaves
   answers_matched : (now : ℕ) (longest : Option ℕ) (backoff : Backoff) (from : Endpoint) (tid : ℕ) (old : ServerState S F D) (timers : List Timer)
-      (came : Came S F D) → at tid old.held ≡ None → AreMatched timers old.held →
-      AreMatched (with_timer now longest backoff from (left_by came old from tid).opened.tid
+      (came : Came S F D) → at tid old.held ≡ None → AreMatched IsExact timers old.held →
+      AreMatched IsExact (with_timer now longest backoff from (left_by came old from tid).opened.tid
       (left_by came old from tid).new.held timers) (left_by came old from tid).new.held
   answers_matched now longest backoff from tid old timers Nothing free matched = matched
   answers_matched now longest backoff from tid old timers (Error_reply reply store) free matched = matched
   answers_matched now longest backoff from tid old timers (A_transfer transfer store) free matched =
-      opens_matched timers old.held (started now longest backoff tid from (interval_at (at tid (with_new tid transfer old.held))))
-      transfer free matched
+      opens_matched IsExact _ _ _ transfer free matched
 
   -- the state of a server at its ports
   abbrev IsMatched : LoopState S F D → Type 0
-  IsMatched state = AreMatched state.timers state.server.held
+  IsMatched state = AreMatched IsExact state.timers state.server.held
 
   step_matched : (old new : LoopState S F D) → LoopStep stores sources old new → IsMatched old → IsMatched new
-  step_matched old new (Waited d) matched =
-      subst IsMatched (sym d.is)
-      (let set = map (set_by d.watch.now) old.timers in
-      stays_matched old.timers (map (marked_by d.ports) set) old.server.held old.server.held (λ port.
-      hits_map (λ (t : Timer). t.port) port set (marked_by d.ports) (λ t. refl)
-      ∙ hits_map (λ (t : Timer). t.port) port old.timers (set_by d.watch.now) (λ t. refl)) (λ port. refl) matched)
+  step_matched old new (Waited d) matched = search (std_rules, map, stays_matched, hits_map)
   step_matched old new (At_port d) matched =
-      subst IsMatched (sym d.is)
-      (stays_matched old.timers (slice_set old.timers d.index d.next.timer) old.server.held d.next.server.held
-      (λ port. hits_set (λ (t : Timer). t.port) port old.timers d.index d.timer d.next.timer d.is_timer
-      (stays_at stores sources old.now (port_state old d.timer) d.next d.does).port)
-      (port_keys old.now (port_state old d.timer) d.next d.does) matched)
+      subst IsMatched (sym d.is) (stays_matched IsExact _ _ _ _ (λ port. hits_set _ port _ _ _ _ d.is_timer (stays_at
+      stores sources old.now (port_state old d.timer) d.next d.does).port) (port_keys _ _ _ _ _ d.does) matched)
   step_matched old new (Request_answered d) matched =
-      subst IsMatched (sym d.is)
-      (subst (λ (left : Left S F D). AreMatched (with_timer old.now old.longest old.backoff d.from left.opened.tid left.new.held
-      old.timers) left.new.held) (sym d.steps.left)
-      (answers_matched old.now old.longest old.backoff d.from d.tid old.server old.timers d.steps.came d.free matched))
+      subst IsMatched (sym d.is) (rw (d.steps.left) (answers_matched old.now old.longest old.backoff d.from d.tid
+      old.server old.timers d.steps.came d.free matched))
   step_matched old new (Transfer_closed d) matched =
-      subst IsMatched (sym d.is) (closes_matched old.timers old.server.held d.index d.timer d.within d.is_timer
-      (was_there (at d.timer.port old.server.held) d.taken d.is_taken) matched)
+      subst IsMatched (sym d.is) (closes_matched IsExact _ _ _ _ d.within d.is_timer (was_there _ _ d.is_taken) matched)
   step_matched old new does matched = subst IsMatched (sym (state_is does)) matched
 
   run_matched : {first now : LoopState S F D} → Run (LoopStep stores sources) first now → IsMatched first → IsMatched now
   run_matched Start matched = matched
   run_matched {now = now} (Then {middle} run does) matched = step_matched middle now does (run_matched run matched)
 
+module _ {S F D : Type 0} (stores : StoreMeaning S D) (sources : SourceMeaning F) where
+  -- so no port has two transfers, whatever timers there are
+  pub keyed_once : {start now : LoopState S F D} (run : Run (LoopStep stores sources) start now) →
+      start.server.held ≡ [] → AreKeyedOnce now.server.held
+  keyed_once {start} run none =
+      let first : IsMatched stores sources ⊥ start = search std_rules in
+      (run_matched stores sources ⊥ run first).most
+
+  abbrev AreOneEach : LoopState S F D → Type 0
+  AreOneEach = IsMatched stores sources ⊤
+
   start_matched : (config : LoopConfig) (port reading : ℕ) (first : ServerState S F D) (before : List SocketEvent) →
-      first.held ≡ [] → IsMatched (at_start config port first reading before)
+      first.held ≡ [] → AreOneEach (at_start config port first reading before)
   start_matched config port reading first before none = search rules
 
   -- a timer is of a held transfer, and a held transfer has a timer
-  held_by : (state : LoopState S F D) → IsMatched state → (port : ℕ) → Contains (timer_ports state.timers) port →
+  held_by : (state : LoopState S F D) → AreOneEach state → (port : ℕ) → Contains (timer_ports state.timers) port →
       IsSome (at port state.server.held)
   held_by state matched port timer = search (rules, hits_contained, keyed_found)
 
-  timed_by : (state : LoopState S F D) → IsMatched state → (port : ℕ) → IsSome (at port state.server.held) →
+  timed_by : (state : LoopState S F D) → AreOneEach state → (port : ℕ) → IsSome (at port state.server.held) →
       Contains (timer_ports state.timers) port
-  timed_by state matched port there = search (rules, keyed_present, contains_hit)
+  timed_by state matched port there = search (rules, keyed_present, contains_hit, matched.same tt)
 
-  one_each : (state : LoopState S F D) → IsMatched state → HasOneTimerEach state
-  one_each state matched = search (rules, hits_apart, held_by, timed_by)
+  one_each : (state : LoopState S F D) → AreOneEach state → HasOneTimerEach state
+  one_each state matched = grind (std_arith, common_steps, hits_apart, held_by, timed_by)
 
   pub one_timer_each : (config : LoopConfig) (port reading : ℕ) (first : ServerState S F D) (before : List SocketEvent)
       (now : LoopState S F D) → first.held ≡ [] →
       Run (LoopStep stores sources) (at_start config port first reading before) now → HasOneTimerEach now
   one_timer_each config port reading first before now none run =
-      one_each now (run_matched run (start_matched config port reading first before none))
+      one_each now (run_matched stores sources ⊤ run (start_matched config port reading first before none))

@@ -6,9 +6,13 @@ use Rattle.tftp_promises.proofs.Common.{length, slice_get, Sent, if◌then◌els
 use Rattle.tftp_promises.proofs.Common.{Contains-push, Reply, Elapsed, eq-eqb, append_cancel_right, map, Printed}
 use Rattle.tftp_promises.proofs.Common.{events_of, Contains-append_cases, answered, Contains-append_left, set}
 use Rattle.tftp_promises.proofs.Common.{common_steps, Contains-append_right, AllByRecursion, option_map, cond-true}
+use Rattle.std.proofs.lemmas.Option.{get_or_from_slice_get, slice_get_within}
 
 pub nothing_in : {X : Type 0} (x : X) → Contains [] x → ⊥
 nothing_in x h = let l = h.1 in omega arith
+
+pub found_in : {X : Type 0} (xs : List X) (k : ℕ) (x : X) → slice_get xs k ≡ Some x → Contains xs x
+found_in xs k x e = (k, slice_get_within xs k x e, get_or_from_slice_get xs k x x e)
 
 pub one_in : {X : Type 0} (x y : X) → Contains (y ∷ []) x → y ≡ x
 one_in x y i = search rules
@@ -107,11 +111,6 @@ noted_in p e (x ∷ order) i = elim (Contains-append_cases (x ∷ []) order (p, 
 ]
 
 -- ---- lists with one element per client
-
-pub set_again : {X : Type 0} (xs : List X) (k : ℕ) (x y : X) → set (set xs k x) k y ≡ set xs k y
-set_again [] k x y = refl
-set_again (z ∷ xs) zero x y = refl
-set_again (z ∷ xs) (suc k) x y = ap (λ (ys : List _). z ∷ ys) (set_again xs k x y)
 
 pub set_own : {X : Type 0} (xs : List X) (k : ℕ) (x : X) → slice_get xs k ≡ Some x → set xs k x ≡ xs
 set_own [] k x e = refl

@@ -1,4 +1,5 @@
 -- How a client, and the transfer that serves it, close that have not given up. For Outlasting and Explaining.
+use Rattle.std.proofs.Common.{rules as std_rules}
 use Rattle.tftp_promises.proofs.Common.{List, ℕ, ◌≡◌, rules, sym, Endpoint, refl, ◌∙◌, ap, SourceMeaning, Some, inl}
 use Rattle.tftp_promises.proofs.Common.{StoreMeaning, inr, SinkMeaning, false, true, ◌++◌, Programs, EndState, ◌⊎◌}
 use Rattle.tftp_promises.proofs.Common.{Files, SocketEvent, true≢false, arith, slice_get, ClientOf, is_sender}
@@ -7,7 +8,7 @@ use Rattle.tftp_promises.proofs.Common.{AreJoined, events_of, Act, drafting_sink
 use Rattle.tftp_promises.proofs.Common.{common_steps, acts_in, acts_at, ServesClient, ProgramEnd, IsEnd, is_open}
 use Rattle.tftp_promises.proofs.Common.{transfer_end, KeepAnyFiles, IsOurs, IsRefusal, WasHeld, OneAct}
 use Rattle.tftp_promises.proofs.Common.{AreNotedWhileOpen, IsLiving, HasFailed, IsOver, AreBounded, HasOrder}
-use Rattle.tftp_promises.proofs.Common.{MayCloseAs, cases_Bool, []}
+use Rattle.tftp_promises.proofs.Common.{MayCloseAs, []}
 use Rattle.tftp_lives.specs.Outlasting.{GaveUp}
 use Rattle.tftp_lives.specs.Unanswered.{IsOther}
 use Rattle.tftp_lives.proofs.LivesStand.{life_stands}
@@ -46,10 +47,7 @@ FailsOver e = IsOver e → is_complete e.position.phase ≡ false → HasFailed 
 
 -- so it is complete, if it has not failed
 done : (e : EndState) → FailsOver e → (HasFailed e → ⊥) → IsOver e → is_complete e.position.phase ≡ true
-done e failed sound over = elim (cases_Bool (is_complete e.position.phase)) [
-  | inl is ↦ is
-  | inr is ↦ absurd (sound (failed over is))
-]
+done e failed sound over = search std_rules
 
 -- one that has closed is complete too, if its peer is over once this one gave up, and is not complete before it
 complete_by : (x y : EndState) → FailsOver x → FailsOver y → (HasFailed x → ⊥) → (HasFailed y → ⊥) →
@@ -151,9 +149,7 @@ module _ {S F D G K : Type 0} {stores : StoreMeaning S D} {sources : SourceMeani
               all_in all state until since later own earlier before a b c = grind (arith, common_steps)
 
           living : IsLiving stores sources its_acts serves.transfer
-          living =
-              transfers_live stores sources was.run programs.server.empty programs.server.max_block serves.port
-              serves.transfer was.held
+          living = search (std_rules, transfers_live)
 
           shown : HasOrder k client.port serves.port order (acts_in client.runs) its_acts
               (IsOpen serves.transfer.end × (was.since ≡ []))
@@ -162,13 +158,7 @@ module _ {S F D G K : Type 0} {stores : StoreMeaning S D} {sources : SourceMeani
               in_order k client.port serves.port order (acts_in client.runs) its_acts (was.since ++ noted.later)
               noted.own.noted noted.earlier (rw (joined.is_order.clients k client found) (client_tells client))
               noted.own.tells server_noted in
-              record {
-                active = all.active;
-                acts = all.acts;
-                are = all.are;
-                still = λ h. all.still
-                    (ap (λ (es : List SocketEvent). es ++ noted.later) h.1 ∙ noted.still (ap not h.0));
-              }
+              search std_rules
 
           both : (acts : List OneAct) (limit slack : ℕ) → AreBounded programs client p serves was acts limit slack →
               (GaveUp client.last.end → IsOver serves.transfer.end) × (GaveUp serves.transfer.end → IsOver client.last.end)

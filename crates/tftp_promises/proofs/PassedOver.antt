@@ -1,13 +1,14 @@
 -- A server that a client passes over: for these two the client has sent its request, and no more.
+use Rattle.std.proofs.Common.{rules as std_rules}
 use Rattle.tftp_promises.proofs.Common.{List, ℕ, ◌≡◌, rules, sym, Endpoint, refl, [], ◌∙◌, ap, SourceMeaning, Some}
 use Rattle.tftp_promises.proofs.Common.{subst, inl, StoreMeaning, inr, ◌∷◌, SinkMeaning, false, true, None, ◌++◌}
 use Rattle.tftp_promises.proofs.Common.{Programs, Bool, ◌⊎◌, Contains, SocketEvent, true≢false, arith, ◌≢◌, LoopState}
 use Rattle.tftp_promises.proofs.Common.{slice_get, LoopStep, Sent, if◌then◌else◌, is_sender, client_at, Received}
 use Rattle.tftp_promises.proofs.Common.{endpoint, same_Some, Run, suc, IsStranger, Noted, ◌==◌, cases_Bool, zero}
-use Rattle.tftp_promises.proofs.Common.{IsPrefixOf, our_ports, eq-eqb, is_complete, AreJoined, events_of, client_end}
-use Rattle.tftp_promises.proofs.Common.{common_steps, TakesOwn, ArePortsFresh, MayCome, ProgramEnd, IsEnd, IsHonest}
-use Rattle.tftp_promises.proofs.Common.{eqb-true, heard_with, alone, CanCome, number_of, AreDistinct, IsOrder, ips}
-use Rattle.tftp_promises.proofs.Common.{KeepAnyFiles, IsOurs, OneClient, IsAtOf, Several, OneServer, has_of, WasSent}
+use Rattle.tftp_promises.proofs.Common.{our_ports, eq-eqb, is_complete, AreJoined, events_of, client_end, common_steps}
+use Rattle.tftp_promises.proofs.Common.{TakesOwn, ArePortsFresh, MayCome, ProgramEnd, IsEnd, IsHonest, heard_with}
+use Rattle.tftp_promises.proofs.Common.{alone, CanCome, number_of, AreDistinct, IsOrder, ips, KeepAnyFiles, IsOurs}
+use Rattle.tftp_promises.proofs.Common.{OneClient, IsAtOf, Several, OneServer, has_of, WasSent}
 use Rattle.tftp_rules.proofs.ViewSafe.{first_of_empty}
 use Rattle.tftp_promises.specs.Alone.{HasNothing, IsPassedOver, OthersHaveNothing, just_asking}
 use Rattle.tftp_promises.specs.AnyFiles.{peer_of}
@@ -46,11 +47,8 @@ module _ (x : SocketEvent) where
   -- before an event the client's trace begins so, too
   begins_by : (member : Bool) (e : Noted) (order : List Noted) → (e.0 == 1) ≡ member →
       Begins x (events_of 1 (e ∷ order)) → Begins x (events_of 1 order)
-  begins_by true e order is h =
-      begins_after x e.1 (events_of 1 order)
-      (subst (λ (b : Bool). Begins x (if b then e.1 ∷ events_of 1 order else events_of 1 order)) is h)
-  begins_by false e order is h =
-      subst (λ (b : Bool). Begins x (if b then e.1 ∷ events_of 1 order else events_of 1 order)) is h
+  begins_by true e order is h = begins_after x _ _ (rw (is) at h)
+  begins_by false e order is h = rw (is) at h
 
   server_first : (member : Bool) (events : List SocketEvent) (e : Noted) (order rest : List Noted) → (e.0 == 1) ≡ member →
       events_of 0 rest ≡ events_of 0 order → events_of 0 (by_member member events e rest) ≡ events_of 0 (e ∷ order)
@@ -85,8 +83,7 @@ in_order p (e ∷ order) x c = by (λ more. in_order p order x more) (e.0 == p) 
       Contains (if b then e.1 ∷ events_of p order else events_of p order) x → Contains (e ∷ order) (p, x)
   by rest true is c = elim (first_or_more e.1 x (events_of p order) c) [
     | inl same ↦
-        let here : (e.0, e.1) ≡ (p, x) =
-        ap (λ (q : ℕ). (q, e.1)) (eqb-true e.0 p is) ∙ ap (λ (y : SocketEvent). (p, y)) same in
+        let here : (e.0, e.1) ≡ (p, x) = search std_rules in
         subst (λ (y : Noted). Contains (e ∷ order) y) here (first_in e order)
     | inr more ↦ later_in e order (p, x) (rest more)
   ]
@@ -133,8 +130,7 @@ module _ {S F D G K : Type 0} {stores : StoreMeaning S D} {sources : SourceMeani
 
   fresh : ArePortsFresh less
   fresh = record {
-    server =
-        subst (λ (ports : List ℕ). AreDistinct (several.port ∷ ports)) (ours_same server.run) over.among.fresh.server;
+    server = subst (λ ports. AreDistinct (several.port ∷ ports)) (ours_same server.run) over.among.fresh.server;
     clients = λ p q x y e f same. (only p x e).0 ∙ sym (only q y f).0;
     apart = λ q port x e known same.
         over.among.fresh.apart 0 port client refl (back port known) (ap at_of (sym (only q x e).1) ∙ same);
@@ -190,35 +186,29 @@ module _ {S F D G K : Type 0} {stores : StoreMeaning S D} {sources : SourceMeani
       (starts : Begins request (events_of 1 order)) (from to : Endpoint) (bytes : List ℕ) (q : ℕ)
       (to_is : to ≡ endpoint several.ip q) (noted : Contains server.noted (Received q from bytes)) where
     request_there : events_of 1 order ≢ [] → Contains (first_only order) (1, request)
-    request_there some =
-        in_order 1 (first_only order) request
-        (subst (λ (es : List SocketEvent). Contains es request) (sym ((client_all request order starts).1 some))
-        (first_in request []))
+    request_there some = in_order 1 _ _ (rw (((client_all request order starts).1 some)) (first_in request []))
 
     by_client : (port : ℕ) → from ≡ endpoint client.ip port → Contains order (1, Sent port to bytes) →
         Comes order from to bytes
     by_client port at sent =
         let events = noted_in 1 (Sent port to bytes) order sent in
-        let some : events_of 1 order ≢ [] =
-        λ none. nothing_in (Sent port to bytes) (subst (λ (es : List SocketEvent). Contains es (Sent port to bytes)) none
-        events) in
+        let some : events_of 1 order ≢ [] = λ none. nothing_in (Sent port to bytes) (rw (none) at events) in
         let own_port : port ≡ client.port =
-        sent_own client port to bytes
-        (subst (λ (es : List SocketEvent). Contains es (Sent port to bytes)) (order_is.clients 0 client refl)
-        (noted_in 1 (Sent port to bytes) heard (within (1, Sent port to bytes) sent))) in
+        sent_own client port to bytes (rw (order_is.clients 0 client refl) at (noted_in 1 (Sent port to bytes) heard
+        (within (1, Sent port to bytes) sent))) in
         let here : from ≡ there = at ∙ ap (λ (p : ℕ). endpoint client.ip p) own_port in
-        elim (over.refused q bytes (subst (λ (a : Endpoint). Contains server.noted (Received q a bytes)) here noted)) [
+        elim (over.refused q bytes (rw (here) at noted)) [
           | inl is ↦
               let to_there : client.first.position.last_sent_to ≡ to =
               sent_to ∙ (ap (λ (p : ℕ). endpoint several.ip p) (sym is.0) ∙ sym to_is) in
               let same : request ≡ Sent client.port to bytes =
-              ap (λ (a : Endpoint). Sent client.port a client.first.position.last_sent) to_there
-              ∙ ap (λ (b : List ℕ). Sent client.port to b) (sym is.1) in
+              ap (λ (a : Endpoint). Sent client.port a client.first.position.last_sent) to_there ∙ ap (λ (b : List ℕ).
+              Sent client.port to b) (sym is.1) in
               inl (record {
                 program = 1;
                 port = client.port;
                 is_at = (client.ip, refl, here);
-                sent = subst (λ (e : SocketEvent). Contains (first_only order) (1, e)) same (request_there some);
+                sent = rw (same) at (request_there some);
               })
           | inr error ↦ inr (inr error)
         ]
@@ -237,11 +227,10 @@ module _ {S F D G K : Type 0} {stores : StoreMeaning S D} {sources : SourceMeani
 
     came : (p port : ℕ) → IsAtOf (ips both) p port from →
         Contains order (p, Sent port to bytes) → Comes order from to bytes
-    came zero port at sent =
-        by_server port (at.2 ∙ ap (λ (a : List ℕ). endpoint a port) (sym (same_Some several.ip at.0 at.1))) sent
+    came zero port at sent = by_server _ (at.2 ∙ ap (λ a. endpoint a port) (sym (same_Some several.ip at.0 at.1))) sent
     came (suc zero) port at sent =
-        by_client port (at.2 ∙ ap (λ (a : List ℕ). endpoint a port) (sym (same_Some client.ip at.0 at.1))) sent
-    came (suc (suc p)) port at sent = absurd (let f : None ≡ Some at.0 = at.1 in cc)
+        by_client _ (at.2 ∙ ap (λ a. endpoint a port) (sym (same_Some client.ip at.0 at.1))) sent
+    came (suc (suc p)) port at sent = absurd (cc)
 
   comes : (p : ℕ) → p ≢ 1 → (e : SocketEvent) (order : List Noted) →
       ((x : Noted) → Contains ((p, e) ∷ order) x → Contains heard x) → Begins request (events_of 1 order) →
@@ -337,12 +326,8 @@ module _ {S F D G K : Type 0} {stores : StoreMeaning S D} {sources : SourceMeani
   has_nothing = record {
     empty = λ x is_end peer receives.
         let h = kept_less.safe.is_prefix x there is_end receives peer ours in
-        first_of_empty (has_of x) (subst (λ (y : ProgramEnd). IsPrefixOf (has_of x) y.moved.bytes)
-        (its h.0 h.1.is_end h.1.address) h.2);
-    incomplete = λ x is_end peer. elim (cases_Bool (is_complete x.state.position.phase)) [
-      | inl complete ↦ absurd (whole x is_end peer complete (is_sender x.state.role.side) refl)
-      | inr not ↦ not
-    ];
+        first_of_empty (has_of x) (rw (its h.0 h.1.is_end h.1.address) at h.2);
+    incomplete = search (std_rules, cases_Bool, is_complete, whole, is_sender);
   }
 
 pub others_nothing : {S F D G K : Type 0} (stores : StoreMeaning S D) (sources : SourceMeaning F)

@@ -3,12 +3,12 @@ use Rattle.tftp_promises.proofs.Common.{List, ℕ, ◌≡◌, rules, sym, Endpoi
 use Rattle.tftp_promises.proofs.Common.{subst, inl, StoreMeaning, inr, ◌∷◌, SinkMeaning, false, true, None, ◌++◌}
 use Rattle.tftp_promises.proofs.Common.{Programs, Bool, Contains, true≢false, arith, ◌≢◌, LoopState, length, slice_get}
 use Rattle.tftp_promises.proofs.Common.{LoopStep, joined, ClientOf, if◌then◌else◌, client_at, endpoint, Run, suc}
-use Rattle.tftp_promises.proofs.Common.{IsStranger, Then, Start, ◌==◌, cases_Bool, zero, Contains-push, not, cases_eq}
+use Rattle.tftp_promises.proofs.Common.{IsStranger, Then, Start, ◌==◌, cases_Bool, zero, Contains-push, cases_eq}
 use Rattle.tftp_promises.proofs.Common.{eq-eqb, map, Contains-append_cases, Request_answered, Contains-append_left}
-use Rattle.tftp_promises.proofs.Common.{Elsewhere, Contains-append_right, ◌&&◌, is_ours, opened_ports, ClientProgram}
-use Rattle.tftp_promises.proofs.Common.{ne_eqb, option_to_list, At_server, place, At_client, same_self, is_same, Host}
-use Rattle.tftp_promises.proofs.Common.{has_port, same_ip, same_other, cond-true}
-use Rattle.std.proofs.lemmas.Bool.{cond-false, false_from_ne_true}
+use Rattle.tftp_promises.proofs.Common.{Elsewhere, Contains-append_right, is_ours, opened_ports, ClientProgram, ne_eqb}
+use Rattle.tftp_promises.proofs.Common.{option_to_list, At_server, place, At_client, same_self, is_same, Host, has_port}
+use Rattle.tftp_promises.proofs.Common.{same_ip, same_other, cond-true}
+use Rattle.std.proofs.lemmas.Bool.{and_parts, cond-false, false_from_ne_true, not-true}
 use Rattle.tftp_promises.specs.Hosts.{ClientsAreThere, ServerIsThere, StrangersAreElsewhere}
 use Rattle.tftp_promises.specs.Programs.{has_client, is_at_server}
 use Rattle.tftp_promises.proofs.Orders.{one_in}
@@ -48,15 +48,6 @@ port_has (p ∷ ports) port c = elim (Contains-append_cases (p ∷ []) ports por
       cond-true (port == p) true (has_port ports port) (eq-eqb port p (sym (one_in port p here)))
   | inr later ↦ either_way (port == p) (has_port ports port) (port_has ports port later)
 ]
-
-from_not : (b : Bool) → not b ≡ true → b ≡ false
-from_not b e = search rules
-
-&&-left : (a b : Bool) → (a && b) ≡ true → a ≡ true
-&&-left a b e = search rules
-
-&&-right : (a b : Bool) → (a && b) ≡ true → b ≡ true
-&&-right a b e = search rules
 
 module _ {G K : Type 0} {inputs : SourceMeaning G} {outputs : SinkMeaning K} {to : Endpoint} where
   has_own : (clients : List (ClientProgram inputs outputs to)) (k : ℕ) (client : ClientProgram inputs outputs to) →
@@ -127,7 +118,7 @@ module _ {S F D G K : Type 0} {stores : StoreMeaning S D} {sources : SourceMeani
 
   -- a stranger is not at the server
   far_by : (a : Endpoint) → (a.ip ≡ programs.ip → Contains programs.others a.port) → near a ≡ false
-  far_by a h = search (rules, false_from_ne_true, &&-left, true≢false, port_has, from_not, &&-right)
+  far_by a h = search (rules, false_from_ne_true, and_parts, true≢false, port_has, not-true)
 
   strange_elsewhere : (a : Endpoint) → IsStranger programs a → (joined programs).host_of a ≡ Elsewhere
   strange_elsewhere a h = search (rules, has_none, far_by)

@@ -1,15 +1,16 @@
 -- A datagram that the server handles at the port of a transfer keeps the invariant.
-use Rattle.tftp_promises.proofs.Common.{List, ℕ, ◌≡◌, rules, sym, Endpoint, refl, [], ◌∙◌, ap, SourceMeaning, subst}
-use Rattle.tftp_promises.proofs.Common.{inl, StoreMeaning, inr, ◌∷◌, SinkMeaning, false, true, None, ◌++◌, Programs}
+use Rattle.std.proofs.Common.{rules as std_rules}
+use Rattle.tftp_promises.proofs.Common.{List, ℕ, ◌≡◌, sym, Endpoint, refl, [], ◌∙◌, ap, SourceMeaning, subst, inl}
+use Rattle.tftp_promises.proofs.Common.{StoreMeaning, inr, ◌∷◌, SinkMeaning, false, true, None, ◌++◌, Programs}
 use Rattle.tftp_promises.proofs.Common.{EndState, ◌⊎◌, Files, SocketEvent, Option, true≢false, ◌≢◌, LoopState, joined}
 use Rattle.tftp_promises.proofs.Common.{outcome_of, OpenEnd, is_sender, Received, endpoint, Snapshot, Turn, IsStranger}
 use Rattle.tftp_promises.proofs.Common.{Moved, open_view, Sink, Source, ServerState, Spells, WirePacket, cases_Bool}
-use Rattle.tftp_promises.proofs.Common.{IsPrefixOf, after_turn, Reply, server_did, place_at, moved_at, peer_of, Action}
-use Rattle.tftp_promises.proofs.Common.{drafting_sink, PortStep, with_next, Role, Elsewhere, Acts, Respond, end_after}
-use Rattle.tftp_promises.proofs.Common.{datagram_action, Config, error_bytes, is_some, port_state, has_error_opcode}
-use Rattle.tftp_promises.proofs.Common.{is_ours, IsUnblamed, AreSame, files_in, ⊤, step_moves, Goes, Drafting}
-use Rattle.tftp_promises.proofs.Common.{ServesPort, Stands, Response, StepIn, UnknownTransferId, port_moves}
-use Rattle.tftp_promises.proofs.Common.{ReceivesAndHandles, Position, with_position, datagram_goes}
+use Rattle.tftp_promises.proofs.Common.{IsPrefixOf, after_turn, server_did, place_at, moved_at, peer_of, Action}
+use Rattle.tftp_promises.proofs.Common.{drafting_sink, with_next, Role, Elsewhere, Acts, datagram_action, Config}
+use Rattle.tftp_promises.proofs.Common.{error_bytes, is_some, port_state, has_error_opcode, is_ours, IsUnblamed}
+use Rattle.tftp_promises.proofs.Common.{AreSame, files_in, ⊤, step_moves, Goes, Drafting, ServesPort, Stands, StepIn}
+use Rattle.tftp_promises.proofs.Common.{UnknownTransferId, port_moves, ReceivesAndHandles, Position, with_position}
+use Rattle.tftp_promises.proofs.Common.{datagram_goes}
 use Rattle.tftp_loop.specs.Steps.{At_port, A_datagram, AnswersDatagram}
 use Rattle.tftp_server.specs.Steps.{TakesDatagramLent}
 use Rattle.tftp_rules.specs.EndShown.{IsOpenAt}
@@ -120,24 +121,9 @@ module _ {S F D G K : Type 0} {stores : StoreMeaning S D} {sources : SourceMeani
       HasStored pad now end taken.next.files → Seated end → IsKept pad now
   then_keeps end goes address state path request unblamed has seated =
       turn_keeps kept fresh port taken.transfer taken.found (At_port serves) (stays_by kept serves added events) added
-      taken.next held taken.takes.path taken.takes.request turn (record {
-        end = end;
-        goes = goes;
-        address = address;
-        state = state;
-        path = path;
-        request = request;
-        unblamed = unblamed;
-        has = has;
-        seated = seated;
-      }) (sends_only kept serves added events turn.reply received answers.events (datagram_silent port from bytes))
+      taken.next held taken.takes.path taken.takes.request turn (search) (sends_only kept serves added events
+      turn.reply received answers.events (datagram_silent port from bytes))
       (λ a n. none_beside programs old.run serves a n)
-
-  -- ---- an end that stays as it is
-  acts_quiet : (e : EndState) (step : step_x e) (response : Response) →
-      datagram_action e from bytes step.decoded ≡ Respond response → (moved : Moved) →
-      step_moves sources (drafting_sink stores) from bytes e files_before turn files_after step moved ≡ moved
-  acts_quiet e step response says moved = search rules
 
   -- how it answers
   abbrev Answered : Type 0
@@ -151,30 +137,21 @@ module _ {S F D G K : Type 0} {stores : StoreMeaning S D} {sources : SourceMeani
     quiet : (moved : Moved) → port_moves serves.does moved ≡ moved
     quiet moved =
         let answer = answered taken.takes.steps.decoded in
-        let says : datagram_action taken.transfer.end from bytes taken.takes.steps.decoded ≡ Respond answer.response =
-        subst (λ (e : EndState). datagram_action e from bytes taken.takes.steps.decoded ≡ Respond answer.response)
-        was.state answer.is in
-        ap (λ (d : PortStep stores sources old.state.now (port_state old.state serves.timer) serves.next). port_moves d
-        moved) is ∙ acts_quiet taken.transfer.end taken.takes.steps answer.response says moved
+        let says = rw (was.state) at answer.is in
+        search std_rules
 
     rests_keeps : IsKept pad now
     rests_keeps =
         let answer = answered its_step.decoded in
-        let A : Action → Type 0 = λ (action : Action).
-        Acts sources (drafting_sink stores) action from bytes x.state files_before turn files_after in
-        let acts : A (Respond answer.response) = subst A answer.is its_step.acts in
-        let same =
-        same_in old.state.server.store serves.next.server.store taken.transfer.path taken.next.path
-        old.state.server.config.overwrite taken.transfer.files taken.next.files acts.1 taken.takes.stays
-        taken.takes.kind in
-        let position : turn.position ≡ x.state.position = ap (λ (t : Turn). t.position) acts.0 ∙ answer.same in
-        let state : x.state ≡ after_turn x.state turn = ap (λ (p : Position). with_position p x.state) (sym position) in
-        then_keeps x
-        (subst (λ (t : Turn). Goes (joined programs) kept.shown.0 kept.views kept.messages was.viewed.index x t x)
-        (sym acts.0) answer.goes) refl (state ∙ next_state) refl refl was.viewed.unblamed
-        (subst (λ (f : Files F D). HasStored pad now x f) (sym same.1)
-        (stored_after pad old (At_port serves) added x (none_at_port programs old.run serves quiet x.address)
-        taken.transfer.files was.has)) (seated state)
+        let A : Action → Type 0 = λ (action : Action). Acts sources (drafting_sink stores) action from bytes x.state
+        files_before turn files_after in
+        let acts = subst A answer.is its_step.acts in
+        let same = same_in _ _ _ _ _ _ _ acts.1 taken.takes.stays taken.takes.kind in
+        let position = ap (λ (t : Turn). t.position) acts.0 ∙ answer.same in
+        let state = ap (λ (p : Position). with_position p x.state) (sym position) in
+        then_keeps x (rw (sym acts.0) at answer.goes) refl (state ∙ next_state) refl refl was.viewed.unblamed
+        (subst (λ (f : Files F D). HasStored pad now x f) (sym same.1) (stored_after pad old (At_port serves) added x
+        (none_at_port programs old.run _ quiet x.address) taken.transfer.files was.has)) (seated state)
 
   -- a stranger's transfer answers one that is ours by an ERROR, which is there already
   pub wrong_keeps : IsStrangers programs x.state → is_ours programs from ≡ true →
@@ -183,17 +160,12 @@ module _ {S F D G K : Type 0} {stores : StoreMeaning S D} {sources : SourceMeani
       let n : s.peer ≢ from =
       λ same. true≢false (sym ours ∙ (ap (is_ours programs) (sym same) ∙ not_ours programs s.peer s.strange)) in
       let wrong = wrong_peer x.state from bytes its_step.decoded s.peer s.is_peer n in
-      let acts = subst (λ (action : Action).
-      Acts sources (drafting_sink stores) action from bytes x.state
-      files_before turn files_after) wrong
-      its_step.acts in
-      rests_keeps (λ decoded. wrong_datagram_goes (joined programs) kept.shown.0 kept.views kept.messages
-      was.viewed.index x stands was.viewed.kept s.peer s.is_peer from n bytes decoded)
+      let acts = rw (wrong) at its_step.acts in
+      rests_keeps (λ decoded. wrong_datagram_goes _ _ _ _ _ x stands was.viewed.kept _ s.is_peer _ n bytes decoded)
       (λ state. inr (record {
         strangers = s;
         replies = λ reply says.
-            inr (subst (λ (r : Reply). IsThere kept.messages (endpoint programs.ip port) r.to r.bytes)
-            (sym (wrong_replies sources (drafting_sink stores) from x.state (has_error_opcode bytes) bytes _ turn _
+            inr (rw ((wrong_replies sources (drafting_sink stores) from x.state (has_error_opcode bytes) bytes _ turn _
             acts reply says)) there);
       }))
 
@@ -212,15 +184,11 @@ module _ {S F D G K : Type 0} {stores : StoreMeaning S D} {sources : SourceMeani
     seated_by y is_y (inl here) (inr strange) = inl here
     seated_by y is_y (inr s) (inr strange) =
         let stays =
-        datagram_stays sources (drafting_sink stores) from x.state bytes its_step.decoded _ turn _ its_step.acts
-        s.peer s.is_peer in
+        datagram_stays sources (drafting_sink stores) from x.state bytes its_step.decoded _ turn _ its_step.acts s.peer
+        s.is_peer in
         inr (record {
-          strangers =
-              subst (λ (e : EndState). IsStrangers programs e) (sym is_y)
-              (stays_strangers programs from x.state turn strange s stays);
-          replies =
-              λ reply says. inl (subst (λ (a : Endpoint). IsStranger programs a)
-              (sym (stays.replies reply says)) strange);
+          strangers = rw (is_y) (stays_strangers programs from x.state turn strange s stays);
+          replies = λ reply says. inl (rw ((stays.replies reply says)) strange);
         })
 
     seated : (y : OpenEnd) → y.state ≡ after_turn x.state turn → Seated y
@@ -249,10 +217,7 @@ module _ {S F D G K : Type 0} {stores : StoreMeaning S D} {sources : SourceMeani
         step_moves sources (drafting_sink stores) from bytes e files_before turn files_after step before
 
     moved_now : moved_at programs x.address now.run ≡ after_by taken.transfer.end taken.takes.steps
-    moved_now =
-        moves_here programs old.run serves x.address (sym was.address) before
-        ∙ ap (λ (d : PortStep stores sources old.state.now (port_state old.state serves.timer) serves.next). port_moves d
-        before) is
+    moved_now = moves_here programs old.run serves x.address (sym was.address) before ∙ ap (λ d. port_moves d before) is
 
     -- and in all
     abbrev all : List ℕ
@@ -281,9 +246,13 @@ module _ {S F D G K : Type 0} {stores : StoreMeaning S D} {sources : SourceMeani
         step before).bytes all → Over files' (step_moves sources (drafting_sink stores) from bytes x.state
         (before_in files) turn (after_in files') step before)
     over still (Source s) (Source s') same h step begins =
-        source_over sources (drafting_sink stores) (IsGiven programs now.run) (IsTaken programs now.run) x
-        (joined programs) was.viewed.kept still from bytes turn before s s' pad all text step begins
-        (λ content m on g. record { opening = g.opening; first = g.first; long = g.long; since = on _ g.since }) h
+        source_over sources (drafting_sink stores) (IsGiven programs now.run) (IsTaken programs now.run) x (joined
+        programs) was.viewed.kept still from bytes turn before s s' pad all text step begins (λ content m on g. record {
+          opening = g.opening;
+          first = g.first;
+          long = g.long;
+          since = on _ g.since;
+        }) h
     over still (Sink d) (Sink d') same h step begins =
         let k : Drafting S D = record {
           store = old.state.server.store;
@@ -292,38 +261,30 @@ module _ {S F D G K : Type 0} {stores : StoreMeaning S D} {sources : SourceMeani
           replace = old.state.server.config.overwrite;
         } in
         let k' : Drafting S D = record k { store = serves.next.server.store; draft = d'; path = taken.next.path } in
-        sink_over sources (drafting_sink stores) (IsGiven programs now.run) (IsTaken programs now.run) x
-        (joined programs) was.viewed.kept still from bytes turn before k k' d d' step
-        (λ after m receives fate t. record {
-          first = t.first;
-          began = t.began;
-          since = fate_takes x turn k k' after before.bytes m.bytes (sym was.path) replace_is (inl store_is) still t.since
-              (datagram_action x.state from bytes step.decoded) (λ c. complete_responds x.state from bytes step.decoded
-              (sym (was.viewed.kept.committed receives) ∙ c)) fate;
-        }) h
+        sink_over sources (drafting_sink stores) (IsGiven programs now.run) (IsTaken programs now.run) x (joined
+        programs) was.viewed.kept still from bytes turn before k k' d d' step (λ after m receives fate t. search
+        (fate_takes x turn k k' after before.bytes m.bytes (sym was.path) replace_is (inl store_is) still t.since
+        (datagram_action x.state from bytes step.decoded) (λ c. complete_responds x.state from bytes step.decoded
+        (sym (was.viewed.kept.committed receives) ∙ c)) fate)) h
     over still (Source s) (Sink d) same h step begins = absurd same
     over still (Sink d) (Source s) same h step begins = absurd same
 
     open_keeps : is_some (outcome_of x.state.position.phase) ≡ false → IsKept pad now
     open_keeps o =
-        let still = no_outcome (outcome_of x.state.position.phase) o in
-        let Steps : EndState → Type 0 =
-        λ (e : EndState). (step : step_x e) → IsPrefixOf (after_by e step).bytes all →
+        let still = no_outcome _ o in
+        let Steps : EndState → Type 0 = λ (e : EndState). (step : step_x e) → IsPrefixOf (after_by e step).bytes all →
         Over taken.next.files (after_by e step) in
         let m =
         subst Steps was.state (λ step begins. over still taken.transfer.files taken.next.files taken.takes.kind
-        (file_later programs old.run (At_port serves) x before taken.transfer.files was.has.file) step begins) taken.takes.steps
-        (subst (λ (m : Moved). IsPrefixOf m.bytes all) moved_now told.bytes) in
+        (file_later _ _ (At_port serves) x _ _ was.has.file) step begins) taken.takes.steps (rw (← moved_now)
+        told.bytes) in
         let unblamed =
-        turn_unblamed kept fresh x was.viewed still
-        (λ same. apart_from_requests kept fresh place
-        (kept.server.opened port taken.transfer place (inl (taken.found, refl))) (sym was.address ∙ same))
-        from bytes come spelled (λ no_peer near_port p spells answer. absurd (peered o no_peer)) turn m.content
-        m.steps in
-        then_keeps (end_after x turn m.content)
-        (datagram_goes (joined programs) kept.shown.0 kept.views kept.messages was.viewed.index x from bytes turn
-        m.content (open_now o) come (λ no_peer near_port p spells answer. absurd (peered o no_peer)) m.steps) refl
-        next_state refl refl unblamed (record {
+        turn_unblamed kept fresh x was.viewed still (λ same. apart_from_requests kept fresh _ (kept.server.opened port
+        taken.transfer place (inl (taken.found, refl))) (sym was.address ∙ same)) from bytes come spelled (λ no_peer
+        near_port p spells answer. absurd (peered o no_peer)) turn m.content m.steps in
+        then_keeps _ (datagram_goes (joined programs) kept.shown.0 kept.views kept.messages was.viewed.index x from
+        bytes turn m.content (open_now o) come (λ no_peer near_port p spells answer. absurd (peered o no_peer)) m.steps)
+        refl next_state refl refl unblamed (record {
           opened = record {
             opening = was.has.opened.opening;
             opened = was.has.opened.opened;
@@ -331,10 +292,8 @@ module _ {S F D G K : Type 0} {stores : StoreMeaning S D} {sources : SourceMeani
             role = was.has.opened.role;
           };
           text = was.has.text;
-          file =
-              subst (λ (now_moved : Moved). FileSo (IsGiven programs now.run) (IsTaken programs now.run)
-              taken.next.files (end_after x turn m.content) now_moved) (sym moved_now) m.file;
-        }) (seated (end_after x turn m.content) refl)
+          file = rw (moved_now) m.file;
+        }) (seated _ refl)
 
     -- a closed one
     closed_keeps : is_some (outcome_of x.state.position.phase) ≡ true → IsKept pad now

@@ -45,8 +45,7 @@ module _ {S F D G K : Type 0} {stores : StoreMeaning S D} {sources : SourceMeani
   stays_by = record {
     seats = λ port. refl;
     removes = λ port transfer h. h;
-    pending =
-        λ from bytes e. kept.server.pending from bytes (sym (ap (λ (s : LoopState S F D). s.pending) serves.is) ∙ e);
+    pending = λ from bytes e. kept.server.pending from bytes (sym (ap (λ s. s.pending) serves.is) ∙ e);
   }
 
   -- the events of the step
@@ -60,17 +59,14 @@ module _ {S F D G K : Type 0} {stores : StoreMeaning S D} {sources : SourceMeani
 
     -- only the answer was sent
     pub sends_only : IsSilent noted → SendsOnly serves.timer.port reply added
-    sends_only silent =
-        subst (λ (es : List SocketEvent). SendsOnly serves.timer.port reply es) added_is
-        (answered_sends serves.timer.port reply noted silent)
+    sends_only silent = rw (← added_is) (answered_sends serves.timer.port reply noted silent)
 
     -- what was received was sent there, or may come nevertheless
     pub received_there : (port : ℕ) (from : Endpoint) (bytes : List ℕ) → Contains noted (Received port from bytes) →
         CanTake old programs.ip added →
         WasSentBefore old from (endpoint programs.ip port) bytes ⊎ MayCome programs from bytes
     received_there port from bytes c take =
-        take port from bytes (subst (λ (es : List SocketEvent). Contains es (Received port from bytes)) added_is
-        (answered_has serves.timer.port reply noted (Received port from bytes) c))
+        take port from bytes (rw (← added_is) (answered_has serves.timer.port reply noted (Received port from bytes) c))
 
 -- A step at the port of a transfer that leaves its end as it was keeps the invariant: a datagram is lost, a receive
 -- finds none, a timeout finds no open transfer, or the file does its work.
@@ -96,9 +92,8 @@ module _ {S F D G K : Type 0} {stores : StoreMeaning S D} {sources : SourceMeani
     -- the server is the same
     pub same_server : serves.next.server ≡ old.state.server → IsSilent added → IsKept pad now
     same_server same silent =
-        let all : new.server ≡ old.state.server = server_is kept serves added events ∙ same in
-        still_keeps kept (At_port serves) (stays_by kept serves added events) none
-        (ap (λ (s : ServerState S F D). s.held) all) added silent
+        let all : new.server ≡ old.state.server = server_is kept serves _ events ∙ same in
+        still_keeps kept _ (stays_by kept serves _ events) none (ap (λ (s : ServerState S F D). s.held) all) _ silent
 
     -- the end of its transfer is the same
     same_end : (transfer next : TransferState F D) (found : at port old.state.server.held ≡ Some transfer) →
@@ -106,9 +101,8 @@ module _ {S F D G K : Type 0} {stores : StoreMeaning S D} {sources : SourceMeani
         next.end ≡ transfer.end → next.path ≡ transfer.path → next.request ≡ transfer.request → IsSilent added →
         HasStored pad now (its_end port transfer found).end next.files → IsKept pad now
     same_end transfer next found held end path request silent left =
-        as_it_was kept fresh port transfer found (At_port serves) (stays_by kept serves added events) added next
-        (ap (λ (s : ServerState S F D). s.held) (server_is kept serves added events) ∙ held) (λ a n. none a) end path
-        request left silent
+        as_it_was _ fresh _ _ found _ (stays_by kept serves _ events) _ _ (ap (λ (s : ServerState S F D). s.held)
+        (server_is kept serves _ events) ∙ held) (λ a n. none a) end path request left silent
 
     -- a source gave no bytes, and a draft took none
     abbrev MovedNone : Files F D → Files F D → Type 0
@@ -121,17 +115,18 @@ module _ {S F D G K : Type 0} {stores : StoreMeaning S D} {sources : SourceMeani
     run_left transfer next found kind =
         let h = its_end port transfer found in
         let has = stored_after pad old (At_port serves) added h.end (none h.end.address) transfer.files h.has in
-        record {
-          opened = has.opened;
-          text = has.text;
-          file = file_on (IsGiven programs now.run) (IsTaken programs now.run) h.end _ (λ s s' same g. record {
-            opening = g.opening;
-            first = g.first;
-            long = g.long;
-            since = gave_none g.since same;
-          }) (λ d d' same t. record { first = t.first; began = t.began; since = took_none same t.since })
-              transfer.files next.files kind has.file;
-        }
+        search (file_on (IsGiven programs now.run) (IsTaken programs now.run) h.end _ (λ s s' same g. record {
+          opening
+              = g.opening;
+          first = g.first;
+          long = g.long;
+          since = gave_none g.since same;
+        }) (λ d d' same t. record {
+          first = t.first;
+          began = t.began;
+          since = took_none same t.since;
+        }) transfer.files next.files kind
+        has.file)
 
     kept_kind : (store store' : S) (path path' : List ℕ) (replace : Bool) (files files' : Files F D) →
         KeepsDraft files files' store store' →
@@ -238,25 +233,21 @@ module _ {S F D G K : Type 0} {stores : StoreMeaning S D} {sources : SourceMeani
     -- what a timeout leaves of its file is what was there
     has : HasStored pad elapsed_now y timed.transfer.files
     has =
-        let h =
-        stored_after pad old (At_port serves) added x (none x.address) timed.transfer.files kept_end.has in
-        record {
-          opened = h.opened;
-          text = h.text;
-          file = file_turned x turn (open_before x.state) (IsGiven programs elapsed_now.run)
-              (IsTaken programs elapsed_now.run) timed.transfer.files _ (λ s g. record {
-                opening = g.opening;
-                first = g.first;
-                long = g.long;
-                since = gave_still refl (open_before x.state) g.since;
-              }) (λ d receives t. record {
-                first = t.first;
-                began = t.began;
-                since =
-                    took_still (ap (λ (z : Holding). z.committed) (held_same x turn (open_before x.state) receives))
-                    (open_before x.state) t.since;
-              }) h.file;
-        }
+        let h = stored_after pad old (At_port serves) added x (none x.address) timed.transfer.files kept_end.has in
+        search (file_turned x turn (open_before x.state) (IsGiven programs elapsed_now.run) (IsTaken programs
+        elapsed_now.run) timed.transfer.files _ (λ s g. record {
+          opening = g.opening;
+          first = g.first;
+          long =
+              g.long;
+          since = gave_still refl (open_before x.state) g.since;
+        }) (λ d receives t. record {
+          first =
+              t.first;
+          began = t.began;
+          since = took_still (ap (λ (z : Holding). z.committed) (held_same x turn
+              (open_before x.state) receives)) (open_before x.state) t.since;
+        }) h.file)
 
     stands : Stands (joined programs) kept.shown.0 kept.views kept.messages kept_end.viewed.index (open_view x)
     stands = record { shown = kept.shown.1; viewed = kept_end.viewed.viewed }
@@ -264,18 +255,21 @@ module _ {S F D G K : Type 0} {stores : StoreMeaning S D} {sources : SourceMeani
     its_turn : Goes (joined programs) kept.shown.0 kept.views kept.messages kept_end.viewed.index x turn y
     its_turn = elim (cases_Bool (is_some (outcome_of x.state.position.phase))) [
       | inl c ↦
-          closed_timeout_goes (joined programs) kept.shown.0 kept.views kept.messages kept_end.viewed.index x stands
-          kept_end.viewed.kept c kept_end.viewed.last_sent
+          closed_timeout_goes _ _ _ _ _ x stands kept_end.viewed.kept c kept_end.viewed.last_sent
       | inr o ↦
-          timeout_goes (joined programs) kept.shown.0 kept.views kept.messages kept_end.viewed.index x
-          (record { stands = stands; kept = kept_end.viewed.kept; still = o; last_sent = kept_end.viewed.last_sent })
+          timeout_goes (joined programs) kept.shown.0 kept.views kept.messages kept_end.viewed.index x (record {
+            stands
+                = stands;
+            kept = kept_end.viewed.kept;
+            still = o;
+            last_sent = kept_end.viewed.last_sent;
+          })
     ]
 
     only_reply : SendsOnly its_port turn.reply added
     only_reply =
-        subst (λ (e : EndState). SendsOnly its_port (timeout_turn e).reply added) (sym kept_end.state)
-        (sends_only kept serves added events (timeout_turn timed.transfer.end).reply elapsed answers.events
-        (elapsed_silent its_port old.state.now))
+        subst (λ e. SendsOnly its_port (timeout_turn e).reply added) (sym kept_end.state) (sends_only kept serves added
+        events (timeout_turn timed.transfer.end).reply elapsed answers.events (elapsed_silent its_port old.state.now))
 
     -- where it stands then
     seated : (place ≡ endpoint programs.ip its_port) ⊎ IsStrangers programs x.state → Seated turn y
@@ -283,8 +277,7 @@ module _ {S F D G K : Type 0} {stores : StoreMeaning S D} {sources : SourceMeani
 
     pub timeout_keeps : IsKept pad elapsed_now
     timeout_keeps =
-        turn_keeps kept fresh its_port timed.transfer timed.found (At_port serves) (stays_by kept serves added events)
-        added next held refl refl turn (record {
+        turn_keeps _ fresh _ _ timed.found _ (stays_by kept serves _ events) _ _ held refl refl _ (record {
           end = y;
           goes = its_turn;
           address = refl;

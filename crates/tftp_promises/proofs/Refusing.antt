@@ -1,20 +1,20 @@
 -- Which first answers a waiting client refuses. For the law a_client_ends_for_a_reason.
-use Rattle.tftp_promises.proofs.Common.{List, ℕ, ◌≡◌, rules, Endpoint, refl, [], Some, inl, inr, ◌∷◌, false, true, None}
-use Rattle.tftp_promises.proofs.Common.{Bool, EndState, ◌⊎◌, Option, true≢false, arith, length, if◌then◌else◌}
-use Rattle.tftp_promises.proofs.Common.{is_sender, Mode, ◌==◌, cases_Bool, ◌≤◌, not, ◌<◌, Ok, IsBlockSize, Outcome}
-use Rattle.tftp_promises.proofs.Common.{Action, Ack, Role, Respond, datagram_action, Known, ◌*◌, Terms, ◌&&◌, Error}
-use Rattle.tftp_promises.proofs.Common.{Data, has_error_opcode, Result, Phase, Packet, Err, RawOption, nat_lt, Asked}
-use Rattle.tftp_promises.proofs.Common.{terms_of, size, DEFAULT_BLOCK, Refusal, ◌^◌, agreed_options, writer_action}
-use Rattle.tftp_promises.proofs.Common.{WrongPeer, packet_action, Ignore, is_wrong_peer, garbled_response, is_none}
-use Rattle.tftp_promises.proofs.Common.{Waiting, MAX_BLOCK, answer, agreement, accept_action, reader_action}
+use Rattle.std.proofs.Common.{rules as std_rules}
+use Rattle.tftp_promises.proofs.Common.{List, ℕ, ◌≡◌, rules, Endpoint, [], Some, inl, inr, ◌∷◌, false, true, None, Bool}
+use Rattle.tftp_promises.proofs.Common.{EndState, ◌⊎◌, Option, true≢false, arith, length, if◌then◌else◌, is_sender}
+use Rattle.tftp_promises.proofs.Common.{Mode, ◌==◌, cases_Bool, ◌≤◌, ◌<◌, Ok, IsBlockSize, Outcome, Action, Ack, Role}
+use Rattle.tftp_promises.proofs.Common.{Respond, datagram_action, Known, ◌*◌, Terms, ◌&&◌, Error, Data}
+use Rattle.tftp_promises.proofs.Common.{has_error_opcode, Result, Packet, Err, RawOption, nat_lt, Asked, size}
+use Rattle.tftp_promises.proofs.Common.{DEFAULT_BLOCK, Refusal, ◌^◌, agreed_options, writer_action, WrongPeer, Ignore}
+use Rattle.tftp_promises.proofs.Common.{is_none, Waiting, MAX_BLOCK, answer, agreement, accept_action, reader_action}
 use Rattle.tftp_promises.proofs.Common.{begin_with_action, nat_le, next_action, data_action, same_address, ltb-true}
 use Rattle.tftp_promises.proofs.Common.{Limits, asked_options, IfSome}
-use Rattle.std.proofs.lemmas.Bool.{ltb-false}
+use Rattle.std.proofs.lemmas.Bool.{ltb-false, not-false}
 use Rattle.tftp_negotiate.specs.declared.refusal.Refusal.TheVariants.{Repeated, TooLarge}
 use Rattle.tftp_negotiate.specs.Options.{name_of, number_of}
 use Rattle.tftp_negotiate.specs.Agreement.{taken, taken_option}
 use Rattle.tftp_negotiate.specs.Asked.{IsFor}
-use Rattle.tftp_negotiate.specs.Negotiation.{each_judged, kept_before, repeats}
+use Rattle.tftp_negotiate.specs.Negotiation.{each_judged, kept_before}
 use Rattle.tftp_negotiate.specs.declared.name.Name.{Name}
 use Rattle.tftp_negotiate.proofs.LawsLemmas.{ends_agree}
 use Rattle.tftp_ends.specs.Opening.{asked_size}
@@ -35,22 +35,11 @@ module _ (o : Outcome) where
       if is_sender role.side then writer_action role.mode asked limit role.length from decoded
       else reader_action role.mode asked limit from decoded
 
-  abbrev action_in : EndState → Endpoint → Endpoint → List ℕ → Option Packet → Phase → Action
-  action_in e to from bytes decoded phase =
-      if is_wrong_peer (terms_of phase) to from
-      then (if has_error_opcode bytes then Respond Ignore else Respond WrongPeer)
-      else if has_error_opcode bytes && is_none decoded then Respond (garbled_response phase)
-      else packet_action e from decoded phase
-
   -- what is known if it closes
   pub record ClosesAt (role : Role) (asked : Asked) (limit : ℕ) (to from : Endpoint) (bytes : List ℕ)
       (decoded : Option Packet) : Type 0 where
     pub near : same_address to from ≡ true
     pub by : ((has_error_opcode bytes && is_none decoded) ≡ true) ⊎ ClosesBy o (waiting_as role asked limit from decoded)
-
-  from_not : (b : Bool) → not b ≡ false → b ≡ true
-  from_not true e = refl
-  from_not false e = absurd (true≢false e)
 
   no_stranger : {P : Type 0} (b : Bool) → ClosesBy o (if b then Respond Ignore else Respond WrongPeer) → P
   no_stranger b h = search rules
@@ -58,7 +47,7 @@ module _ (o : Outcome) where
   pub closes_at : (e : EndState) (asked : Asked) (limit : ℕ) (to from : Endpoint) (bytes : List ℕ)
       (decoded : Option Packet) → e.position.phase ≡ Waiting asked limit → e.position.last_sent_to ≡ to →
       ClosesBy o (datagram_action e from bytes decoded) → ClosesAt e.role asked limit to from bytes decoded
-  closes_at e asked limit to from bytes decoded phase to_is h = search (rules, closes_if, from_not, no_stranger)
+  closes_at e asked limit to from bytes decoded phase to_is h = search (rules, closes_if, not-false, no_stranger)
 
   -- a packet is not garbled
   pub of_packet : (role : Role) (asked : Asked) (limit : ℕ) (to from : Endpoint) (bytes : List ℕ) (p : Packet)
@@ -148,9 +137,7 @@ module _ (asked : Asked) (mode : Mode) (limit more : ℕ) where
 
   limited : (options : List RawOption) (ks : List Known) → agreement asked kinds.Read mode options more ≡ Ok ks →
       SameOr ks (agreement asked kinds.Read mode options limit)
-  limited options ks e =
-      unless_repeated (repeats options) (each_judged (taken_option asked kinds.Read mode more) options)
-      (each_judged (taken_option asked kinds.Read mode limit) options) ks (each options ks) e
+  limited options ks e = search (std_rules, unless_repeated, each)
 
 -- ---- of a read
 pub read_taken : (asked : Asked) (mode : Mode) (measured limit : ℕ) (limits : Limits) (known : List Known) →
@@ -183,11 +170,4 @@ pub write_taken : (asked : Asked) (mode : Mode) (length limit : ℕ) (limits : L
     IsFor asked kinds.Write mode length → length < 65535 * asked_size asked.blksize → IsBlockSize limits.max_block →
     answer (asked_options asked mode) kinds.Write mode 0 limits ≡ Ok known →
     agreement asked kinds.Write mode (agreed_options known) limit ≡ Ok known
-write_taken asked mode length limit limits known for fits max e =
-    let low = block_in asked.blksize for.askable.blksize in
-    ends_agree asked kinds.Write mode length 0 limit limits known for
-    (record {
-      client_fits = omega (arith, low, fits);
-      length_fits = omega arith;
-      within = λ read. absurd (let f : kinds.Write ≡ kinds.Read = read in cc);
-    }) max e
+write_taken asked mode length limit limits known for fits max e = search (std_rules, block_in, ends_agree)

@@ -1,16 +1,17 @@
 -- What the request port's decision implies for the request.
-use Rattle.tftp_promises.proofs.Common.{List, ℕ, ◌≡◌, rules, sym, Endpoint, refl, [], ◌∙◌, ap, SourceMeaning, Some}
-use Rattle.tftp_promises.proofs.Common.{subst, inl, StoreMeaning, inr, ◌∷◌, false, true, Bool, EndState, ◌⊎◌, Option}
-use Rattle.tftp_promises.proofs.Common.{arith, length, if◌then◌else◌, Mode, Sink, Source, ServerState, WirePacket, ◌≤◌}
-use Rattle.tftp_promises.proofs.Common.{◌<◌, Ok, A_transfer, IsBlockSize, Came, WireRequest, Known, Nothing, ◌*◌, Left}
+use Rattle.std.proofs.Common.{rules as std_rules}
+use Rattle.tftp_promises.proofs.Common.{List, ℕ, ◌≡◌, rules, sym, Endpoint, [], ◌∙◌, ap, SourceMeaning, Some, subst}
+use Rattle.tftp_promises.proofs.Common.{inl, StoreMeaning, inr, ◌∷◌, false, true, Bool, EndState, ◌⊎◌, Option, arith}
+use Rattle.tftp_promises.proofs.Common.{length, if◌then◌else◌, Mode, Sink, Source, ServerState, WirePacket, ◌≤◌, ◌<◌}
+use Rattle.tftp_promises.proofs.Common.{Ok, A_transfer, IsBlockSize, Came, WireRequest, Known, Nothing, ◌*◌, Left}
 use Rattle.tftp_promises.proofs.Common.{requested, Read, Error_reply, has_error_opcode, Result, serving_read, Opening}
 use Rattle.tftp_promises.proofs.Common.{RawOption, nat_lt, path_of_name, Write, size, block_length, DEFAULT_BLOCK}
 use Rattle.tftp_promises.proofs.Common.{Refusal, if_acts, ◌^◌, MAX_BLOCK, StoreFault, ErrorReply, serving_write, answer}
 use Rattle.tftp_promises.proofs.Common.{AreGranted, AsksToRead, ltb-true, GivesInTurn, Limits, FileChanged, first_moved}
 use Rattle.tftp_promises.proofs.Common.{Gave_nothing, Gave_more, Ask}
 use Rattle.tftp_file.specs.declared.path.PathFault.{PathFault}
-use Rattle.tftp_server.specs.Port.{Ignores, Refuses, Reads, Writes, asks, by_kind, by_name, by_options, by_packet}
-use Rattle.tftp_server.specs.Port.{by_repeat, Service, Sends, Refused, by_draft, by_file, by_length}
+use Rattle.tftp_server.specs.Port.{Ignores, Refuses, Reads, Writes, asks, by_kind, by_name, by_packet, by_repeat}
+use Rattle.tftp_server.specs.Port.{Service, Sends, Refused, by_draft, by_file, by_length}
 use Rattle.tftp_ends.specs.declared.error_reply.ErrorReply.TheVariants.{FileTooLarge}
 use Rattle.tftp_ends.specs.Opening.{ServesRead}
 use Rattle.tftp_store.specs.Store.{measured}
@@ -54,29 +55,14 @@ module _ (limits : Limits) (repeated : Bool) (bytes : List ℕ) where
         Implies (Some (Read r)) (by_kind kinds.Read r.mode r.options limits path)
     asked_to_read r path found new = search rules
 
-    asked_to_write : (r : WireRequest) (path : List ℕ) (a : Result (List Known) Refusal) →
-        path_of_name r.name ≡ Ok path → repeated ≡ false →
-        answer r.options kinds.Write r.mode 0 limits ≡ a → Implies (Some (Write r)) (by_options path r.mode a)
-    asked_to_write r path a found new e = search rules
-
     implied : (decoded : Option WirePacket) → Implies decoded (by_packet cap count repeated limits decoded)
-    implied (Some (Read r)) =
-        unless_repeated (Some (Read r)) (by_name cap count (by_kind kinds.Read r.mode r.options limits)
-        (path_of_name r.name))
-        (λ new. named (Some (Read r)) (by_kind kinds.Read r.mode r.options limits) (path_of_name r.name)
-        (λ path found. asked_to_read r path found new))
-    implied (Some (Write r)) =
-        unless_repeated (Some (Write r)) (by_name cap count (by_kind kinds.Write r.mode r.options limits)
-        (path_of_name r.name))
-        (λ new. named (Some (Write r)) (by_kind kinds.Write r.mode r.options limits) (path_of_name r.name)
-        (λ path found. asked_to_write r path (answer r.options kinds.Write r.mode 0 limits) found new refl))
+    implied (Some (Read r)) = unless_repeated _ _ (λ new. named _ _ _ (λ path found. asked_to_read r _ found new))
+    implied (Some (Write r)) = search std_rules
     implied decoded = tt
 
     -- it is known of each decision
     pub asks_imply : (decoded : Option WirePacket) → Implies decoded (asks cap count repeated limits bytes decoded)
-    asks_imply decoded =
-        if_acts (Implies decoded) (has_error_opcode bytes) Ignores (by_packet cap count repeated limits decoded)
-        inl (λ b. implied decoded)
+    asks_imply decoded = search (std_rules, if_acts, has_error_opcode, implied)
 
 -- How the request port answers a datagram.
 
@@ -201,23 +187,13 @@ module _ {S F D : Type 0} (meaning : StoreMeaning S D) (sources : SourceMeaning 
           Read_answers path mode options
       starts_so agreed e granted few (inl serves) =
           let p = the_piece agreed serves.rest serves.end serves.serves in
-          inr (record {
-            agreed = agreed;
-            granted = granted;
-            measured = opening.length;
-            answers = e;
-            fits = few;
-            piece = p.0;
-            first = p.1;
-            rest = serves.rest;
-            opening = opening;
-            opened = opened;
-            long = refl;
-            gave = p.3;
-            is =
-                serves.opens ∙ ap (λ (end : EndState). A_transfer
-                (record { end = end; files = Source serves.rest; path = path; request = bytes }) old.store) p.2;
-          })
+          inr (search (serves.opens ∙ ap (λ (end : EndState). A_transfer (record {
+            end = end;
+            files = Source
+                serves.rest;
+            path = path;
+            request = bytes;
+          }) old.store) p.2))
       starts_so agreed e granted few (inr changed) = inl (refuses came FileChanged changed.2)
 
       numbered : (agreed : List Known) → answer options kinds.Read mode opening.length old.config.limits ≡ Ok agreed →
@@ -225,10 +201,7 @@ module _ {S F D : Type 0} (meaning : StoreMeaning S D) (sources : SourceMeaning 
           Has_sent (if b then Sends path mode opening.length agreed else Refused FileTooLarge) opening →
           Read_answers path mode options
       numbered agreed e true l h =
-          let few = ltb-true opening.length (65535 * size agreed) l in
-          let small = answer_small options kinds.Read mode opening.length old.config.limits agreed max e in
-          starts_so agreed e (answer_granted options kinds.Read mode opening.length old.config.limits agreed
-          (word agreed small few) max e) few h
+          search (std_rules, ltb-true, size, answer_small, starts_so, answer_granted, word)
       numbered agreed e false l h = inl (refuses came FileTooLarge h)
 
       answered : (a : Result (List Known) Refusal) →

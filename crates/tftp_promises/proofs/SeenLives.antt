@@ -1,4 +1,5 @@
 -- What a trace shows that tells of the acts of an end. For GivingUp.
+use Rattle.std.proofs.Common.{rules as std_rules}
 use Rattle.tftp_promises.proofs.Common.{List, ℕ, ◌≡◌, rules, sym, Endpoint, refl, [], ◌∙◌, ap, subst, inl, inr, ◌∷◌}
 use Rattle.tftp_promises.proofs.Common.{false, true, ◌++◌, Bool, ◌⊎◌, SocketEvent, true≢false, arith, Sent}
 use Rattle.tftp_promises.proofs.Common.{if◌then◌else◌, Received, suc, Noted, ◌==◌, zero, ◌≤◌, ◌+◌, Elapsed, eq-eqb}
@@ -50,14 +51,12 @@ module _ (port : ℕ) where
 
   pub tells_sent : (events : List SocketEvent) (acts : List Act) → Tells port events acts → (to : Endpoint)
       (bytes : List ℕ) → Has (Said to bytes) acts → Has (Sent port to bytes) events
-  tells_sent events acts t to bytes h =
-      let there = tells_act events acts t (Said to bytes) h in rw there.2 at there.1
+  tells_sent events acts t to bytes h = search (std_rules, tells_act)
 
   -- what was handled was received
   pub tells_took : (events : List SocketEvent) (acts : List Act) → Tells port events acts → (from : Endpoint)
       (bytes : List ℕ) → Has (Took from bytes) acts → Has (Received port from bytes) events
-  tells_took events acts t from bytes h =
-      let there = tells_act events acts t (Took from bytes) h in rw there.2 at there.1
+  tells_took events acts t from bytes h = search (std_rules, tells_act)
 
   -- copy by copy
   pub tells_copies : (events : List SocketEvent) (acts : List Act) → Tells port events acts → (n : ℕ) (to : Endpoint)
@@ -96,8 +95,7 @@ module _ (port : ℕ) where
   seen_time : (time : ℕ) (events : List SocketEvent) (to : Endpoint) (bytes : List ℕ) (count : ℕ) →
       SeenSince events to bytes count → SeenSince (Elapsed port time ∷ events) to bytes (1 + count)
   seen_time time events to bytes count h =
-      let one : ◌≡◌ {A = ℕ} (if port == port then 1 else 0) 1 =
-      ap (λ (b : Bool). if b then 1 else 0) (eq-eqb port port refl) in
+      let one : ◌≡◌ {A = ℕ} (if port == port then 1 else 0) 1 = search std_rules in
       let m = h.timeouts in
       record {
         later = Elapsed port time ∷ h.later;
@@ -109,8 +107,7 @@ module _ (port : ℕ) where
   seen_act : (e : SocketEvent) (act : Act) (events : List SocketEvent) (to : Endpoint) (bytes : List ℕ)
       (later : List Act) → IsEventOf port e act → SeenSince events to bytes (timed later) →
       SeenSince (e ∷ events) to bytes (timed (act ∷ later))
-  seen_act e Timed events to bytes later is h =
-      rw is.1 (seen_time is.0 events to bytes (timed later) h)
+  seen_act e Timed events to bytes later is h = rw is.1 (seen_time is.0 _ _ _ _ h)
   seen_act e act events to bytes later is h = seen_on e events to bytes (timed later) h
 
   since_newest : (e : SocketEvent) (events : List SocketEvent) (act : Act) (rest later : List Act) (to : Endpoint)
@@ -120,9 +117,7 @@ module _ (port : ℕ) where
   since_newest e events act rest [] to bytes earlier event is more = record {
     later = [];
     earlier = events;
-    is =
-        ap (λ (x : SocketEvent). x ∷ events)
-        (subst (IsEventOf port e) (heads act (Said to bytes) rest earlier is).0 event);
+    is = search std_rules;
     timeouts = omega arith;
   }
   since_newest e events act rest (x ∷ later) to bytes earlier event is more =
@@ -200,12 +195,7 @@ module _ (k port at : ℕ) where
   passes : {order more : List Noted} {client server : List Act} {later newer : List SocketEvent}
       (m : InOrder order client server later) (active : Bool) → Shows k port at active more m.acts →
       (newer ≡ [] → active ≡ true) → InOrder more client server newer
-  passes m active shown still = record {
-    active = active;
-    acts = m.acts;
-    are = record { shown = shown; client_acts = m.are.client_acts; server_acts = m.are.server_acts };
-    still = still;
-  }
+  passes m active shown still = search std_rules
 
   -- with a newest event of the server, which noted these since the transfer was over, while it was open, and before
   server_first : (event : SocketEvent) (order : List Noted) (client server : List Act)
@@ -262,30 +252,28 @@ module _ (k port at : ℕ) where
     nothing_own (x ∷ later) own earlier is = no_more x (later ++ (own ++ earlier)) is
   in_order ((zero, event) ∷ order) client server later own earlier t u is = elim (newest_if port (0 == suc k) t) [
     | inl passed ↦
-        server_first event order client server later own earlier
-        (λ acts newer its older. in_order order client acts newer its older passed.tells) u is
+        server_first event order client server later own earlier (λ acts newer its older. in_order order client acts
+        newer its older passed.tells) u is
     | inr n ↦ absurd (cc (eqb-true 0 (suc k) n.0))
   ]
   in_order ((suc p, event) ∷ order) client server later own earlier t u is =
-      let rest : events_of 0 order ≡ later ++ (own ++ earlier) =
-      rw (ne_eqb (suc p) 0 (λ e. absurd (cc))) at is in
+      let rest : events_of 0 order ≡ later ++ (own ++ earlier) = rw (ne_eqb (suc p) 0 (λ e. absurd (cc))) at is in
       elim (newest_if port (suc p == suc k) t) [
         | inl passed ↦
             let m = in_order order client server later own earlier passed.tells u rest in
-            passes m m.active
-            (Another (suc p) event (λ e. passed.other (eq-eqb (suc p) (suc k) e)) (λ e. absurd (cc)) m.are.shown) m.still
+            passes m m.active (Another (suc p) event (λ e. passed.other (eq-eqb (suc p) (suc k) e)) (λ e. absurd (cc))
+            m.are.shown) m.still
         | inr n ↦
             let m = in_order order n.1.rest server later own earlier n.1.tells u rest in
             record {
               active = m.active;
               acts = (true, n.1.act) ∷ m.acts;
-              are = record {
-                shown =
-                    subst (λ (q : ℕ). Shows k port at m.active ((q, event) ∷ order) ((true, n.1.act) ∷ m.acts))
-                    (sym (eqb-true (suc p) (suc k) n.0)) (Of_client event n.1.act n.1.event m.are.shown);
-                client_acts = ap (λ (acts : List Act). n.1.act ∷ acts) m.are.client_acts ∙ sym n.1.is;
-                server_acts = m.are.server_acts;
-              };
+              are = assumption (
+                subst (λ (q : ℕ). Shows k port at m.active ((q, event) ∷ order) ((true, n.1.act) ∷
+                    m.acts)) (sym (eqb-true (suc p) (suc k) n.0)) (Of_client event n.1.act n.1.event m.are.shown),
+                ap (λ
+                    (acts : List Act). n.1.act ∷ acts) m.are.client_acts ∙ sym n.1.is,
+              );
               still = m.still;
             }
       ]

@@ -1,5 +1,6 @@
 -- A client takes the answers of one port only: at the first datagram of the server's address that it handles and that is
 -- no ERROR it has a peer, or closes.
+use Rattle.std.proofs.Common.{rules as std_rules}
 use Rattle.tftp_promises.proofs.Common.{List, ℕ, ◌≡◌, rules, sym, Endpoint, refl, ◌∙◌, ap, SourceMeaning, Some, subst}
 use Rattle.tftp_promises.proofs.Common.{inl, inr, SinkMeaning, None, Bool, EndState, ◌⊎◌, Contains, Files, Option}
 use Rattle.tftp_promises.proofs.Common.{true≢false, ◌≢◌, length, outcome_of, if◌then◌else◌, Turn, State, Mode}
@@ -178,15 +179,14 @@ module _ {G K : Type 0} {inputs : SourceMeaning G} {outputs : SinkMeaning K} (to
     by_packet : (none : peer_of e.position.phase ≡ None) (near : from.ip ≡ to.ip) → Asks to e →
         (decoded : Option WirePacket) → Decodes bytes decoded →
         Acts inputs outputs (datagram_action e from bytes decoded) from bytes e files turn files' → Decided
-    by_packet none near asks decoded says acts = elim (error_or_not bytes decoded says) [
+    by_packet none near asks decoded says acts = elim (error_or_not _ _ says) [
       | inr error ↦ inl (λ others no_peer h. h.no_error error)
       | inl answer ↦
           let same : from.ip ≡ e.position.last_sent_to.ip =
           near ∙ ap (λ (a : Endpoint). a.ip) (sym (asks still none)) in
           inr (
             λ others own no_peer h. own h.other,
-            acts_settle inputs outputs from e (datagram_action e from bytes decoded) bytes files turn files' acts
-                (action_settles e from bytes decoded answer same e.position.phase still none),
+            acts_settle _ _ _ e _ _ _ _ _ acts (action_settles e _ bytes _ answer same _ still none),
           )
     ]
 
@@ -195,8 +195,7 @@ module _ {G K : Type 0} {inputs : SourceMeaning G} {outputs : SinkMeaning K} (to
     decides asks None is = elim (cases_Bool (is_same_ip from.ip to.ip)) [
       | inl same ↦ by_packet is (same_text from.ip to.ip (sym same)) asks step.decoded step.says step.acts
       | inr far ↦
-          inl (λ others no_peer h. true≢false (sym (ap (λ (ip : List ℕ). is_same_ip ip to.ip) h.near
-          ∙ same_ip to.ip) ∙ far))
+          inl (λ others no_peer h. true≢false (sym (ap (λ ip. is_same_ip ip to.ip) h.near ∙ same_ip to.ip) ∙ far))
     ]
 
   -- ---- a run
@@ -212,10 +211,7 @@ module _ {G K : Type 0} {inputs : SourceMeaning G} {outputs : SinkMeaning K} (to
       (does : ClientDoes inputs outputs port s files s' files') → s'.end ≡ s.end → ((others : List ℕ) → DoesOwn to.ip others does) → Takes run → Takes (Goes_on run does)
   rests run does same own h = record {
     asks = subst (Asks to) (sym same) h.asks;
-    taken = elim h.taken [
-      | inl all ↦ inl (λ others. (all others, own others))
-      | inr one ↦ inr (one.0, λ others n. (one.1 others n, own others), subst Settled (sym same) one.2)
-    ];
+    taken = search std_rules;
   }
 
   answered : {port : ℕ} {first : State} {file : Files G K} {s : State} {files : Files G K}
@@ -223,21 +219,19 @@ module _ {G K : Type 0} {inputs : SourceMeaning G} {outputs : SinkMeaning K} (to
       {bytes : List ℕ} {watch : Watch} (may : MayWait s) (later : IsReadBy s watch)
       (handles : HandlesReceived inputs outputs port from bytes (received port from bytes watch s) files next files') →
       Takes run → Takes (Goes_on run (Receives_one may later handles))
-  answered run may later (Loses lost keeps) h =
-      rests run (Receives_one may later (Loses lost keeps)) refl (λ others. tt) h
-  answered {s = s} {files = files} run {files' = files'} {from = from} {bytes = bytes} may later
-      (Answers {turn = turn} still step) h = record {
-        asks = asks_by from bytes s.end files turn files' still step (peer_of s.end.position.phase) refl h.asks;
+  answered run may later (Loses lost keeps) h = rests _ _ refl (λ others. tt) h
+  answered {s = s} {files = files} run {files' = files'} {from = from} {bytes = bytes} may later (Answers {turn = turn}
+      still step) h = record {
+        asks = asks_by _ _ _ _ _ _ still step _ refl h.asks;
         taken = elim h.taken [
-          | inl all ↦ elim (decides from bytes s.end files turn files' still step h.asks (peer_of s.end.position.phase)
-              refl) [
-                | inl none ↦ inl (λ others. (all others, none others))
-                | inr one ↦ inr (from.port, λ others n. (all others, one.0 others n), one.1)
-              ]
+          | inl all ↦ elim (decides _ _ _ _ _ _ still step h.asks _ refl) [
+            | inl none ↦ inl (λ others. (all others, none others))
+            | inr one ↦ inr (from.port, λ others n. (all others, one.0 others n), one.1)
+          ]
           | inr one ↦ inr (
             one.0,
             λ others n. (one.1 others n, λ no_peer other. one.2 still no_peer),
-            settled_by from bytes s.end files turn files' still step (peer_of s.end.position.phase) refl one.2,
+            settled_by _ _ _ _ _ _ still step _ refl one.2,
           )
         ];
       }
@@ -245,19 +239,12 @@ module _ {G K : Type 0} {inputs : SourceMeaning G} {outputs : SinkMeaning K} (to
   elapsed_so : {port : ℕ} {first : State} {file : Files G K} {s : State} {files : Files G K}
       (run : ClientRun inputs outputs port first file s files) {next : State} (elapses : MayElapse port s next) →
       Takes run → Takes (Goes_on run (Times_out elapses))
-  elapsed_so run (Stays why) h = rests run (Times_out (Stays why)) refl (λ others. tt) h
+  elapsed_so run (Stays why) h = rests _ _ refl (λ others. tt) h
   elapsed_so {s = s} run (Elapses due still) h =
       let stays = timeout_stays s.end in
       record {
-        asks = λ opened none. elim stays.last_is [
-          | inl same ↦ same ∙ h.asks still (sym stays.peer_is ∙ none)
-          | inr same ↦ same ∙ h.asks still (sym stays.peer_is ∙ none)
-        ];
-        taken = elim h.taken [
-          | inl all ↦ inl (λ others. (all others, tt))
-          | inr one ↦
-              inr (one.0, λ others n. (one.1 others n, tt), λ opened none. one.2 still (sym stays.peer_is ∙ none))
-        ];
+        asks = search std_rules;
+        taken = search std_rules;
       }
 
   takes : {port : ℕ} {first : State} {file : Files G K} {s : State} {files : Files G K}

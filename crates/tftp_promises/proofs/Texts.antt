@@ -1,8 +1,11 @@
 -- Prefixes of texts, and a text that is padded to a length.
 use Rattle.tftp_promises.proofs.Common.{List, ℕ, ◌≡◌, rules, sym, refl, [], ◌∙◌, ap, ◌∷◌, ◌++◌, arith, length, suc}
-use Rattle.tftp_promises.proofs.Common.{zero, ◌≤◌, IsPrefixOf, append_assoc, heads, take, length-append, drop, replicate}
-use Rattle.std.proofs.Common.{append-nil}
-use Rattle.std.proofs.lemmas.List.{append_cancel_left, length-replicate, length-take}
+use Rattle.tftp_promises.proofs.Common.{zero, ◌≤◌, IsPrefixOf, append_assoc, heads, take, length-append, drop}
+use Rattle.tftp_promises.proofs.Common.{replicate, ◌+◌}
+use Rattle.std.proofs.Common.{append-nil, rules as std_rules}
+use Rattle.std.proofs.Math.Seq.{drop-append_seam, take-append-add, take-append_seam}
+use Rattle.std.proofs.lemmas.List.{append_cancel_left, length-replicate, length-take, take_all}
+use Rattle.std.specs.Prelude.{◌-◌}
 
 -- the text of this length that begins so, padded by this byte
 abbrev pub pad_to : ℕ → ℕ → List ℕ → List ℕ
@@ -11,20 +14,13 @@ pad_to pad n xs = take n (xs ++ replicate n pad)
 pub pad_length : (pad n : ℕ) (xs : List ℕ) → length (pad_to pad n xs) ≡ n
 pad_length pad n xs = search (rules, length-take, length-append, length-replicate)
 
-begins_take : (xs rest : List ℕ) (n : ℕ) → length xs ≤ n → IsPrefixOf xs (take n (xs ++ rest))
-begins_take [] rest n l = (take n rest, refl)
-begins_take (x ∷ xs) rest zero l = absurd (omega (arith, l))
-begins_take (x ∷ xs) rest (suc n) l =
-    let h = begins_take xs rest n (omega (arith, l)) in (h.0, ap (λ (ys : List ℕ). x ∷ ys) h.1)
-
 -- a prefix that is not longer begins the padded text
 pub begins_padded : (pad n : ℕ) (xs ys : List ℕ) → IsPrefixOf xs ys → length xs ≤ n → IsPrefixOf xs (pad_to pad n ys)
 begins_padded pad n xs ys b l =
-    let h = begins_take xs (b.0 ++ replicate n pad) n l in (
-      h.0,
-      h.1 ∙ ap (λ (zs : List ℕ). take n zs) (sym (append_assoc xs b.0 (replicate n pad))
-          ∙ ap (λ (zs : List ℕ). zs ++ replicate n pad) b.1),
-    )
+    let fill = replicate n pad in
+    let k = n - length xs in
+    let fits : length xs + k ≡ n = omega (arith, l) in
+    (take k (b.0 ++ fill), sym (take-append-add xs (b.0 ++ fill) k) ∙ rw (fits, ← append_assoc xs b.0 fill, b.1) refl)
 
 pub begins_itself : (xs : List ℕ) → IsPrefixOf xs xs
 begins_itself xs = ([], append-nil xs)
@@ -39,32 +35,19 @@ begins_on xs ys zs a b = (a.0 ++ b.0, sym (append_assoc xs a.0 b.0) ∙ (ap (λ 
 pub begins_after : (xs ys zs : List ℕ) → IsPrefixOf (xs ++ ys) (xs ++ zs) → IsPrefixOf ys zs
 begins_after xs ys zs b = (b.0, append_cancel_left xs (ys ++ b.0) zs (sym (append_assoc xs ys b.0) ∙ b.1))
 
-take_first : (xs rest : List ℕ) → take (length xs) (xs ++ rest) ≡ xs
-take_first [] rest = refl
-take_first (x ∷ xs) rest = ap (λ (ys : List ℕ). x ∷ ys) (take_first xs rest)
-
-drop_first : (xs rest : List ℕ) → drop (length xs) (xs ++ rest) ≡ rest
-drop_first [] rest = refl
-drop_first (x ∷ xs) rest = drop_first xs rest
-
 -- a prefix is as much of the text, and what is left comes after it
 pub begins_by_take : (xs ys : List ℕ) → IsPrefixOf xs ys → take (length xs) ys ≡ xs
-begins_by_take xs ys b = ap (take (length xs)) (sym b.1) ∙ take_first xs b.0
+begins_by_take xs ys b = ap (take (length xs)) (sym b.1) ∙ take-append_seam xs b.0
 
 pub then_rest : (xs ys : List ℕ) → IsPrefixOf xs ys → xs ++ drop (length xs) ys ≡ ys
-then_rest xs ys b = ap (λ (zs : List ℕ). xs ++ zs) (ap (drop (length xs)) (sym b.1) ∙ drop_first xs b.0) ∙ b.1
-
-nothing_first : (xs ys : List ℕ) → xs ++ ys ≡ [] → xs ≡ []
-nothing_first [] ys e = refl
-nothing_first (x ∷ xs) ys e = absurd (let f : x ∷ (xs ++ ys) ≡ [] = e in cc)
+then_rest xs ys b = ap (λ (zs : List ℕ). xs ++ zs) (ap (drop (length xs)) (sym b.1) ∙ drop-append_seam xs b.0) ∙ b.1
 
 -- two texts that begin each other are one
 pub begin_each_other : (xs ys : List ℕ) → IsPrefixOf xs ys → IsPrefixOf ys xs → xs ≡ ys
 begin_each_other xs ys a b =
-    let none : a.0 ++ b.0 ≡ [] =
-    append_cancel_left xs (a.0 ++ b.0) [] (sym (append_assoc xs a.0 b.0)
-    ∙ (ap (λ (ws : List ℕ). ws ++ b.0) a.1 ∙ (b.1 ∙ sym (append-nil xs)))) in
-    sym (append-nil xs) ∙ (ap (λ (zs : List ℕ). xs ++ zs) (sym (nothing_first a.0 b.0 none)) ∙ a.1)
+    let long = length-append ys b.0 in
+    let l : length ys ≤ length xs = omega (arith, long, ap (λ (t : List ℕ). length t) b.1) in
+    sym (begins_by_take xs ys a) ∙ take_all (length xs) ys l
 
 -- what begins a text however it is padded begins it
 pub begins_unpadded : (n k : ℕ) (xs zs : List ℕ) → IsPrefixOf zs (take n (xs ++ replicate k 0)) →
@@ -72,10 +55,7 @@ pub begins_unpadded : (n k : ℕ) (xs zs : List ℕ) → IsPrefixOf zs (take n (
 begins_unpadded n k xs [] a b = (xs, refl)
 begins_unpadded zero k xs (z ∷ zs) a b = absurd (let f : z ∷ (zs ++ a.0) ≡ [] = a.1 in cc)
 begins_unpadded (suc n) zero [] (z ∷ zs) a b = absurd (let f : z ∷ (zs ++ a.0) ≡ [] = a.1 in cc)
-begins_unpadded (suc n) (suc k) [] (z ∷ zs) a b =
-    let x = (heads z 0 (zs ++ a.0) (take n (replicate k 0)) a.1).0 in
-    let y = (heads z 1 (zs ++ b.0) (take n (replicate k 1)) b.1).0 in
-    absurd (omega (arith, x, y))
+begins_unpadded (suc n) (suc k) [] (z ∷ zs) a b = search std_rules
 begins_unpadded (suc n) k (x ∷ xs) (z ∷ zs) a b =
     let one = heads z x (zs ++ a.0) (take n (xs ++ replicate k 0)) a.1 in
     let other = heads z x (zs ++ b.0) (take n (xs ++ replicate k 1)) b.1 in

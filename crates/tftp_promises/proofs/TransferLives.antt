@@ -1,27 +1,26 @@
 -- What a step of a server does at a port: to the transfer there, and in the trace. So each transfer that it holds has
 -- lived as the run tells: what it handled and sent since it opened is that of the run, and is a life of its end.
+use Rattle.std.proofs.Common.{rules as std_rules}
 use Rattle.tftp_promises.proofs.Common.{List, ℕ, ◌≡◌, rules, sym, refl, ◌∙◌, ap, Some, inl, inr, ◌∷◌, false, true, None}
-use Rattle.tftp_promises.proofs.Common.{◌++◌, Bool, Option, arith, not, ◌<◌, ◌*◌, true≢false, cases_eq, eq-eqb, ne_eqb}
-use Rattle.tftp_promises.proofs.Common.{same_Some, AllByRecursion, ◌⊎◌, ◌≢◌, if◌then◌else◌, ◌==◌, is_some, IfSome, Mode}
-use Rattle.tftp_promises.proofs.Common.{Packet, size, IsBlockSize, Known, SourceMeaning, StoreMeaning, EndState}
-use Rattle.tftp_promises.proofs.Common.{outcome_of, serving_read, serving_write, Reply, timeout_turn, Act, Took, Lost}
-use Rattle.tftp_promises.proofs.Common.{Timed, with_reply, newest, Life, Times, Opens, Hears, Begins, drafting_sink}
-use Rattle.tftp_promises.proofs.Common.{A_transfer, Came, left_by, Nothing, Error_reply, TransferState, at, ServerState}
-use Rattle.tftp_promises.proofs.Common.{is_closed, is_open, without, KeepsHeld, with_end, WorksAt, numbers}
-use Rattle.tftp_promises.proofs.Common.{lookup-insert_other, lookup-remove_other, lookup-set_same, lookup-insert_same}
-use Rattle.tftp_promises.proofs.Common.{AreGranted, Endpoint, SocketEvent, answered, Sent, Received, Elapsed, state_is}
-use Rattle.tftp_promises.proofs.Common.{server_is, trace_is, stays_at, Run, Then, Start, LoopState, LoopStep, PortStep}
-use Rattle.tftp_promises.proofs.Common.{PortState, port_state, after_request, At_port, Transfer_closed, Request_lost}
-use Rattle.tftp_promises.proofs.Common.{Waited, Store_set, A_datagram, Work, A_timeout, A_lost_datagram}
-use Rattle.tftp_promises.proofs.Common.{A_late_datagram, acts_at, IsNoActAt, IsLiving, first_act, port_acts, came_if}
-use Rattle.tftp_promises.proofs.Common.{IsEventOf, []}
+use Rattle.tftp_promises.proofs.Common.{◌++◌, Bool, Option, arith, ◌<◌, ◌*◌, true≢false, cases_eq, eq-eqb, ne_eqb}
+use Rattle.tftp_promises.proofs.Common.{same_Some, AllByRecursion, ◌⊎◌, ◌≢◌, if◌then◌else◌, ◌==◌, IfSome, Mode, Packet}
+use Rattle.tftp_promises.proofs.Common.{size, IsBlockSize, Known, SourceMeaning, StoreMeaning, EndState, serving_read}
+use Rattle.tftp_promises.proofs.Common.{serving_write, Reply, timeout_turn, Act, Took, Lost, Timed, with_reply, newest}
+use Rattle.tftp_promises.proofs.Common.{Life, Times, Opens, Hears, Begins, drafting_sink, A_transfer, Came, left_by}
+use Rattle.tftp_promises.proofs.Common.{Nothing, Error_reply, TransferState, at, ServerState, is_closed, is_open}
+use Rattle.tftp_promises.proofs.Common.{without, KeepsHeld, with_end, WorksAt, numbers, lookup-insert_other}
+use Rattle.tftp_promises.proofs.Common.{lookup-remove_other, lookup-set_same, lookup-insert_same, AreGranted, Endpoint}
+use Rattle.tftp_promises.proofs.Common.{SocketEvent, answered, Sent, Received, Elapsed, state_is, server_is, trace_is}
+use Rattle.tftp_promises.proofs.Common.{stays_at, Run, Then, Start, LoopState, LoopStep, PortStep, PortState}
+use Rattle.tftp_promises.proofs.Common.{port_state, after_request, At_port, Transfer_closed, Request_lost, Waited}
+use Rattle.tftp_promises.proofs.Common.{Store_set, A_datagram, Work, A_timeout, A_lost_datagram, A_late_datagram}
+use Rattle.tftp_promises.proofs.Common.{acts_at, IsNoActAt, IsLiving, first_act, port_acts, came_if, IsEventOf, []}
 use Rattle.tftp_lives.specs.Lives.{Loses}
 use Rattle.tftp_lives.specs.Unanswered.{MayAgree, To_serve_read, To_serve_write}
 use Rattle.tftp_loop.specs.Steps.LoopStep.{Request_answered}
 use Rattle.tftp_loop.specs.Steps.PortStep.{A_missed_timeout}
-use Rattle.tftp_promises.proofs.Identifiers.{at-without, once-with_new, once-with_next, once-without}
-use Rattle.tftp_promises.proofs.Invariant.{AreKeyedOnce}
-use Rattle.tftp_promises.proofs.OneTimerEach.{port_held}
+use Rattle.tftp_promises.proofs.Identifiers.{at-without}
+use Rattle.tftp_promises.proofs.OneTimerEach.{AreKeyedOnce, keyed_once, was_there}
 use Rattle.tftp_promises.proofs.Requested.{Begins_to_send, Begins_to_store, IsFirst, PortAnswers, Says_error, Silent}
 use Rattle.tftp_promises.proofs.Requested.{port_answers}
 
@@ -42,11 +41,7 @@ module _ {F D : Type 0} where
 
   -- one that is open then was open before
   pub same_open : (was now : Option (TransferState F D)) → HaveSameEnd was now → is_open now ≡ true → is_open was ≡ true
-  same_open None None same still = still
-  same_open (Some t) (Some u) same still =
-      ap (λ (e : EndState). not (is_some (outcome_of e.position.phase))) (sym same) ∙ still
-  same_open None (Some u) same still = absurd same
-  same_open (Some t) None same still = absurd same
+  same_open was now same still = search std_rules
 
 module _ {S F D : Type 0} (stores : StoreMeaning S D) (sources : SourceMeaning F) where
   abbrev Lives : List Act → TransferState F D → Type 0
@@ -76,15 +71,13 @@ module _ {S F D : Type 0} (stores : StoreMeaning S D) (sources : SourceMeaning F
   -- ---- at the port of a transfer
   kept : (port : ℕ) (o : Option (TransferState F D)) (old new : ServerState S F D) → at port old.held ≡ o →
       KeepsHeld stores sources port o old new → HaveSameEnd o (at port new.held)
-  kept port None old new found keeps =
-      same_found None (at port new.held) (ap (λ (s : ServerState S F D). at port s.held) keeps ∙ found)
+  kept port None old new found keeps = search std_rules
   kept port (Some transfer) old new found keeps =
       rw (ap (at port) keeps.2 ∙ lookup-set_same numbers port transfer keeps.0 old.held found) keeps.1.end
 
   worked : (port : ℕ) (o : Option (TransferState F D)) (old new : ServerState S F D) → at port old.held ≡ o →
       WorksAt stores sources port o old new → HaveSameEnd o (at port new.held)
-  worked port None old new found works =
-      same_found None (at port new.held) (ap (λ (s : ServerState S F D). at port s.held) works ∙ found)
+  worked port None old new found works = search std_rules
   worked port (Some transfer) old new found works =
       rw (ap (at port) works.2 ∙ lookup-set_same numbers port transfer works.0 old.held found)
       (ap (λ (t : TransferState F D). t.end) works.1.rest)
@@ -176,8 +169,7 @@ module _ {S F D : Type 0} (stores : StoreMeaning S D) (sources : SourceMeaning F
   read_begins [] peer mode measured retries piece e granted fits first is =
       To_serve_read [] peer mode measured retries piece (may_agree [] granted) fits (omega (arith, first)) is
   read_begins (known ∷ others) peer mode measured retries piece e granted fits first is =
-      To_serve_read (known ∷ others) peer mode measured retries [] (may_agree (known ∷ others) granted) fits (omega arith)
-      is
+      To_serve_read (known ∷ others) peer mode measured retries [] (may_agree _ granted) fits (omega arith) is
 
   sends_there : (agreed : List Known) (peer : Endpoint) (mode : Mode) (measured retries : ℕ) (piece : List ℕ) →
       (serving_read agreed peer mode measured retries piece).position.last_sent_to ≡ peer
@@ -247,7 +239,9 @@ module _ {S F D : Type 0} (stores : StoreMeaning S D) (sources : SourceMeaning F
     gone : (q ≡ d.timer.port) ⊎ (q ≢ d.timer.port) →
         HaveSameEnd (at q old.server.held) (at q (without d.timer.port old.server.held))
         ⊎ (at q (without d.timer.port old.server.held) ≡ None)
-    gone (inl same) = inr (rw same (at-without d.timer.port old.server.held once))
+    gone (inl same) =
+        inr (rw same (at-without d.timer.port old.server.held once
+        (was_there (at d.timer.port old.server.held) d.taken d.is_taken)))
     gone (inr other) = inl (same_found _ _ (lookup-remove_other numbers d.timer.port q old.server.held other))
   does_at q {old = old} run (Waited d) max once apart =
       rw d.is (Leaves (_ ∷ _ ∷ _ ∷ []) (inl (same_self (at q old.server.held))) refl (λ still. (tt, (tt, (tt, tt)))))
@@ -261,33 +255,6 @@ module _ {S F D : Type 0} (stores : StoreMeaning S D) (sources : SourceMeaning F
       (Leaves (_ ∷ []) (inl (same_self (at q old.server.held))) refl (λ still. (search (rules, beside still), tt)))
 
   -- ---- along a run
-  -- no port has two transfers
-  port_once : (now : ℕ) (old new : PortState S F D) → PortStep stores sources now old new →
-      AreKeyedOnce old.server.held → AreKeyedOnce new.server.held
-  port_once now old new does once = elim (port_held stores sources now old new does) [
-    | inl same ↦ rw same once
-    | inr other ↦ rw other.1 (once-with_next old.timer.port other.0 old.server.held once)
-  ]
-
-  came_once : (old : ServerState S F D) (from : Endpoint) (tid : ℕ) (came : Came S F D) → at tid old.held ≡ None →
-      AreKeyedOnce old.held → AreKeyedOnce (left_by came old from tid).new.held
-  came_once old from tid (A_transfer transfer store) free once = once-with_new tid transfer old.held free once
-  came_once old from tid Nothing free once = once
-  came_once old from tid (Error_reply reply store) free once = once
-
-  step_once : {old new : LoopState S F D} → LoopStep stores sources old new → AreKeyedOnce old.server.held →
-      AreKeyedOnce new.server.held
-  step_once {old} (At_port d) once = rw d.is (port_once old.now (port_state old d.timer) d.next d.does once)
-  step_once {old} (Request_answered d) once =
-      rw (d.is, d.steps.left) (came_once old.server d.from d.tid d.steps.came d.free once)
-  step_once {old} (Transfer_closed d) once = rw d.is (once-without d.timer.port old.server.held once)
-  step_once does once = rw (state_is does) once
-
-  pub keyed_once : {start now : LoopState S F D} (run : Run (LoopStep stores sources) start now) →
-      start.server.held ≡ [] → AreKeyedOnce now.server.held
-  keyed_once Start none = rw none tt
-  keyed_once (Then run does) none = step_once does (keyed_once run none)
-
   -- the configuration and the request port never change
   step_config : {old new : LoopState S F D} → LoopStep stores sources old new →
       (new.server.config ≡ old.server.config) × (new.requests ≡ old.requests)
@@ -304,11 +271,7 @@ module _ {S F D : Type 0} (stores : StoreMeaning S D) (sources : SourceMeaning F
       -- one that is open was open before, or opens at another port than that of the requests
       pub open_before : {more : List Act} → DoesAt q requests was now before after acts more → is_open now ≡ true →
           (is_open was ≡ true) ⊎ (q ≢ requests)
-      open_before (Leaves noted (inl same) is others) still = inl (same_open was now same still)
-      open_before (Leaves noted (inr none) is others) still = absurd (true≢false (sym (rw none at still)))
-      open_before (Acts transfer next e act reply there opened is_now event is lives) still =
-          inl (rw there (ap not opened))
-      open_before (Opens_there transfer is_now apart begins is) still = inr apart
+      open_before h0 still = search std_rules
 
       lives_after : {more : List Act} → DoesAt q requests was now before after acts more →
           ((transfer : TransferState F D) → was ≡ Some transfer → Lives acts transfer) → (next : TransferState F D) →
@@ -322,8 +285,8 @@ module _ {S F D : Type 0} (stores : StoreMeaning S D) (sources : SourceMeaning F
         by_end None (Some u) one lives there = absurd one
         by_end (Some t) None one lives there = absurd one
       lives_after (Leaves noted (inr none) is others) h next there = absurd (cc)
-      lives_after (Acts transfer other e act reply was_there opened is_now event is lives) h next there =
-          rw (same_Some next other (sym there ∙ is_now)) (lives (h transfer was_there))
+      lives_after (Acts transfer other e act reply found opened is_now event is lives) h next there =
+          rw (same_Some next other (sym there ∙ is_now)) (lives (h transfer found))
       lives_after (Opens_there transfer is_now apart begins is) h next there =
           rw (same_Some next transfer (sym there ∙ is_now)) (record { first = transfer.end; begins = begins; life = Opens })
 
@@ -337,17 +300,11 @@ module _ {S F D : Type 0} (stores : StoreMeaning S D) (sources : SourceMeaning F
       holds : P (at q now.server.held) now.events (acts_at q run)
 
     so_at : {now : LoopState S F D} (run : Run (LoopStep stores sources) start now) → IsSoAt run
-    so_at Start = record {
-      apart = λ still. absurd (true≢false (sym (rw none at still)));
-      holds = rw none first;
-    }
+    so_at Start = search std_rules
     so_at (Then run does) =
         let h = so_at run in
-        let d = does_at q run does (rw (run_config run) max) (keyed_once run none) h.apart in
-        record {
-          apart = λ still. rw (step_config does).1 (elim (open_before d still) [ inl was ↦ h.apart was | inr apart ↦ apart ]);
-          holds = step _ _ _ _ _ _ _ d h.holds;
-        }
+        let d = does_at q run does (rw (run_config run) max) (keyed_once _ _ run none) h.apart in
+        search (std_rules, step_config, open_before)
 
     pub along : {now : LoopState S F D} (run : Run (LoopStep stores sources) start now) →
         P (at q now.server.held) now.events (acts_at q run)

@@ -1,23 +1,15 @@
 -- The trace of a server at one port: the acts of the transfer there are just its events since it opened, as long as it is
 -- open. For GivingUp and OacksSent.
+use Rattle.std.proofs.Common.{rules}
 use Rattle.tftp_promises.proofs.Common.{List, ℕ, ◌≡◌, sym, refl, ◌∙◌, ap, inl, inr, ◌∷◌, false, true, ◌++◌, Bool}
 use Rattle.tftp_promises.proofs.Common.{Option, arith, not, append_assoc, true≢false, common_steps, AllByRecursion}
-use Rattle.tftp_promises.proofs.Common.{IsBlockSize, SourceMeaning, StoreMeaning, Act, Has, Said, with_reply}
-use Rattle.tftp_promises.proofs.Common.{TransferState, at, is_open, Endpoint, said, SocketEvent, Sent, Run, LoopState}
-use Rattle.tftp_promises.proofs.Common.{LoopStep, acts_at, IsNoActAt, AreNotedWhileOpen, Begins_so, Sends, AreNoted, []}
+use Rattle.tftp_promises.proofs.Common.{IsBlockSize, SourceMeaning, StoreMeaning, Act, Has, Said, TransferState, at}
+use Rattle.tftp_promises.proofs.Common.{is_open, Endpoint, said, SocketEvent, Sent, Run, LoopState, LoopStep, acts_at}
+use Rattle.tftp_promises.proofs.Common.{IsNoActAt, AreNotedWhileOpen, Begins_so, Sends, AreNoted, []}
+use Rattle.tftp_lives.proofs.OneOrder.{has_first, has_last}
 use Rattle.tftp_promises.proofs.SeenLives.{tells_sent}
 use Rattle.tftp_promises.proofs.ClientTraces.{noted_on, noted_reply, noted_act}
 use Rattle.tftp_promises.proofs.TransferLives.{Acts, DoesAt, Leaves, Opens_there, along, same_open}
-
--- what is among some is among more
-pub has_later : {T : Type 0} (x : T) (more ys : List T) → Has x ys → Has x (more ++ ys)
-has_later x [] ys h = h
-has_later x (y ∷ more) ys h = inr (has_later x more ys h)
-
-has_sooner : {T : Type 0} (x : T) (xs ys : List T) → Has x xs → Has x (xs ++ ys)
-has_sooner x [] ys h = absurd h
-has_sooner x (y ∷ xs) ys (inl same) = inl same
-has_sooner x (y ∷ xs) ys (inr h) = inr (has_sooner x xs ys h)
 
 module _ (q : ℕ) (before : List SocketEvent) where
   abbrev pub While : Bool → List SocketEvent → List Act → Type 0
@@ -35,9 +27,7 @@ module _ (q : ℕ) (before : List SocketEvent) where
   -- what was sent is there
   pub sent_in : {active : Bool} {events : List SocketEvent} {acts : List Act} (h : While active events acts) (to : Endpoint)
       (bytes : List ℕ) → Has (Said to bytes) acts → Has (Sent q to bytes) (all_of h)
-  sent_in {acts = acts} h to bytes said =
-      has_later (Sent q to bytes) h.later (h.own.noted ++ h.earlier) (has_sooner (Sent q to bytes) h.own.noted h.earlier
-      (tells_sent q h.own.noted acts h.own.tells to bytes said))
+  sent_in {acts = acts} h to bytes said = search (rules, has_last, has_first, tells_sent)
 
   -- it goes on by acts, if it was open
   acts_on : (active now : Bool) (events after : List SocketEvent) (acts done : List Act) → active ≡ true →
@@ -75,20 +65,18 @@ module _ (q : ℕ) (before : List SocketEvent) where
       {was now : Option (TransferState F D)} {events after : List SocketEvent} {acts : List Act} where
     noted_after : {more : List Act} → DoesAt stores sources q requests was now events after acts more → While (is_open was) events acts →
         While (is_open now) after more
-    noted_after (Leaves noted (inl same) is others) h =
-        rw is (passes_on (is_open was) (is_open now) events noted acts (same_open was now same) others h)
+    noted_after (Leaves noted (inl same) is others) h = rw is (passes_on _ _ _ _ _ (same_open _ _ same) others h)
     noted_after (Leaves noted (inr none) is others) h =
-        rw (is, none) (passes_on (is_open was) false events noted acts (λ f. absurd (true≢false (sym f))) others h)
+        rw (is, none) (passes_on _ _ _ _ _ (λ f. absurd (true≢false (sym f))) others h)
     noted_after (Acts transfer next e act reply there opened is_now event is lives) h =
-        acts_on (is_open was) (is_open now) events after acts (with_reply reply (act ∷ acts)) (rw there (ap not opened))
-        (λ first n. rw is (noted_reply q first (e ∷ events) (act ∷ acts) reply (noted_act q first events acts e act event n)))
-        h
+        acts_on _ (is_open now) _ _ _ _ (rw there (ap not opened)) (λ first n. rw is (noted_reply q first _ _ reply
+        (noted_act q first _ _ e _ event n))) h
     noted_after (Opens_there transfer is_now apart begins is) h = record {
       earlier = all_of h;
       until = after;
       own = record {
         noted = Sent q transfer.end.position.last_sent_to transfer.end.position.last_sent ∷ [];
-        is = is ∙ ap (λ (es : List SocketEvent). Sent q transfer.end.position.last_sent_to transfer.end.position.last_sent ∷ es) (all_is h);
+        is = is ∙ ap (λ es. Sent q transfer.end.position.last_sent_to transfer.end.position.last_sent ∷ es) (all_is h);
         tells = Sends transfer.end.position.last_sent_to transfer.end.position.last_sent Begins_so;
       };
       later = [];
@@ -102,8 +90,7 @@ pub transfers_noted : {S F D : Type 0} (stores : StoreMeaning S D) (sources : So
     {now : LoopState S F D} (run : Run (LoopStep stores sources) start now) →
     AreNotedWhileOpen q start.events now.events (is_open (at q now.server.held)) (acts_at q run)
 transfers_noted {S} {F} {D} stores sources start none max q run =
-    along stores sources none max q
-    (λ (o : Option (TransferState F D)) events acts. AreNotedWhileOpen q start.events events (is_open o) acts) (record {
+    along _ _ none max q _ (record {
       earlier = [];
       until = start.events;
       own = record { noted = []; is = refl; tells = Begins_so };

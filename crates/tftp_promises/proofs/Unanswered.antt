@@ -1,9 +1,9 @@
 -- A request that repeats that of no open transfer is answered by no end that is shown.
-use Rattle.tftp_promises.proofs.Common.{List, ℕ, ◌≡◌, rules, sym, Endpoint, refl, [], ◌∙◌, SourceMeaning, Some, subst}
-use Rattle.tftp_promises.proofs.Common.{inl, StoreMeaning, inr, ◌∷◌, SinkMeaning, false, true, None, Programs, Bool}
-use Rattle.tftp_promises.proofs.Common.{Option, true≢false, LoopState, TransferState, LoopStep, OpenEnd, Snapshot, at}
-use Rattle.tftp_promises.proofs.Common.{Run, open_view, Then, Start, WirePacket, EndView, cases_Bool, is_client}
-use Rattle.tftp_promises.proofs.Common.{Has_asked, IsAmong, HasClosed, is_closed, Removes, is_at, cond, nat_cmp}
+use Rattle.tftp_promises.proofs.Common.{List, ℕ, ◌≡◌, rules, sym, Endpoint, refl, [], ◌∙◌, SourceMeaning, Some, inl}
+use Rattle.tftp_promises.proofs.Common.{StoreMeaning, inr, ◌∷◌, SinkMeaning, false, true, None, Programs, Bool, Option}
+use Rattle.tftp_promises.proofs.Common.{true≢false, LoopState, TransferState, LoopStep, OpenEnd, Snapshot, at, Run}
+use Rattle.tftp_promises.proofs.Common.{open_view, Then, Start, WirePacket, EndView, cases_Bool, is_client, Has_asked}
+use Rattle.tftp_promises.proofs.Common.{IsAmong, HasClosed, is_closed, Removes, is_at, cond, nat_cmp}
 use Rattle.tftp_server.specs.State.{AnyRepeats, IsRepeated, Repeats}
 use Rattle.tftp_rules.specs.Shows.{IsAnswering, NoneAnswers}
 use Rattle.tftp_promises.proofs.Invariant.{HasTransferBy, IsKept}
@@ -76,15 +76,12 @@ module _ {S F D G K : Type 0} {stores : StoreMeaning S D} {sources : SourceMeani
   answers_repeat view among a = elim (kept.only view among) [
     | inl h ↦
         let c = kept.clients h.k h.client (Has_asked h.s h.files h.noted h.moved) h.found h.is_stage in
-        let is =
-        view_there kept.shown c.viewed among (h.address ∙ sym c.address) in
-        absurd (not_a_client c.end c.side (subst (λ (v : EndView). IsAnswering v from packet) is a))
+        let is = view_there kept.shown c.viewed among (h.address ∙ sym c.address) in
+        absurd (not_a_client c.end c.side (rw (← is) a))
     | inr h ↦
         let t = kept.transfers h.port h.transfer view.address h.is_transfer in
-        let is =
-        view_there kept.shown t.viewed among (sym t.address) in
-        transfer_answers h.port h.transfer view.address h.is_transfer t.end t.state t.request
-        (subst (λ (v : EndView). IsAnswering v from packet) is a)
+        let is = view_there kept.shown t.viewed among (sym t.address) in
+        transfer_answers h.port h.transfer view.address h.is_transfer t.end t.state t.request (rw (← is) a)
   ]
 
   -- no end answers a request that is new

@@ -1,11 +1,14 @@
 -- No end of the programs has blamed a peer that is no stranger where the traces arrive.
 -- For the law no_program_is_blamed.
-use Rattle.tftp_promises.proofs.Common.{List, ℕ, ◌≡◌, rules, sym, Endpoint, refl, [], ◌∙◌, ap, SourceMeaning, Some, inl}
-use Rattle.tftp_promises.proofs.Common.{StoreMeaning, inr, ◌∷◌, SinkMeaning, ◌++◌, Programs, EndState, arith, length}
-use Rattle.tftp_promises.proofs.Common.{slice_get, TransferState, joined, ClientOf, client_at, same_Some, suc, Mode}
-use Rattle.tftp_promises.proofs.Common.{moved_in, cases_Bool, zero, ◌≤◌, all_of, Outcome, moved_at, Role, opened_at}
-use Rattle.tftp_promises.proofs.Common.{HasOpened, ArePortsFresh, IsUnblamed, ProgramEnd, IsEnd, wire_text, take}
-use Rattle.tftp_promises.proofs.Common.{length-append, MayCloseAs, NoneIsBlamed, replicate}
+use Rattle.std.proofs.Common.{rules as std_rules}
+use Rattle.tftp_promises.proofs.Common.{List, ℕ, ◌≡◌, rules, sym, Endpoint, refl, ◌∙◌, ap, SourceMeaning, Some, inl}
+use Rattle.tftp_promises.proofs.Common.{StoreMeaning, inr, SinkMeaning, ◌++◌, Programs, EndState, arith, length}
+use Rattle.tftp_promises.proofs.Common.{slice_get, TransferState, joined, ClientOf, client_at, Mode, moved_in}
+use Rattle.tftp_promises.proofs.Common.{cases_Bool, ◌≤◌, all_of, Outcome, moved_at, Role, opened_at, HasOpened}
+use Rattle.tftp_promises.proofs.Common.{ArePortsFresh, IsUnblamed, ProgramEnd, IsEnd, wire_text, take, length-append}
+use Rattle.tftp_promises.proofs.Common.{MayCloseAs, NoneIsBlamed, replicate}
+use Rattle.std.proofs.Math.Seq.{take-append-add}
+use Rattle.std.proofs.lemmas.List.{take-replicate}
 use Rattle.tftp_rules.proofs.HostBytes.{padded_text}
 use Rattle.tftp_rules.proofs.UnblamedEnds.{BlamesBy}
 use Rattle.tftp_promises.specs.Blamed.{BeginsFile, ProgramsAreUnblamed}
@@ -23,15 +26,9 @@ use Rattle.tftp_promises.proofs.Texts.{pad_to}
 abbrev zeros : ℕ → List ℕ
 zeros k = replicate k 0
 
-take_zeros : (k n : ℕ) → k ≤ n → take k (zeros n) ≡ zeros k
-take_zeros zero n l = refl
-take_zeros (suc k) zero l = absurd (omega (arith, l))
-take_zeros (suc k) (suc n) l = ap (λ (zs : List ℕ). 0 ∷ zs) (take_zeros k n (omega (arith, l)))
-
 take_padded : (xs rest : List ℕ) (n : ℕ) → length rest ≤ n →
     take (length (xs ++ rest)) (xs ++ zeros n) ≡ xs ++ zeros (length rest)
-take_padded [] rest n l = take_zeros (length rest) n l
-take_padded (x ∷ xs) rest n l = ap (λ (ys : List ℕ). x ∷ ys) (take_padded xs rest n l)
+take_padded xs rest n l = search (std_rules, length-append, take-append-add, length, take-replicate)
 
 begun_text : (mode : Mode) (long : ℕ) (bytes : List ℕ) → BeginsFile mode long bytes →
     (file : List ℕ) × (wire_text mode file ≡ pad_to 0 long bytes)
@@ -40,12 +37,7 @@ begun_text mode long bytes h =
     let text : wire_text mode h.file ≡ bytes ++ rest = sym h.begins.1 in
     let measured : length (bytes ++ rest) ≡ long = ap length h.begins.1 ∙ h.measured in
     let fits : length rest ≤ long = let l = length-append bytes rest in omega (arith, l, measured) in
-    let padded = padded_text mode h.file bytes rest text in (
-      padded.0,
-      padded.1
-          ∙ (sym (take_padded bytes rest long fits)
-          ∙ ap (λ (n : ℕ). take n (bytes ++ zeros long)) measured),
-    )
+    let padded = padded_text mode h.file bytes rest text in search (std_rules, take_padded, take)
 
 module _ {S F D G K : Type 0} {stores : StoreMeaning S D} {sources : SourceMeaning F} {inputs : SourceMeaning G}
     {outputs : SinkMeaning K} (programs : Programs stores sources inputs outputs) (fresh : ArePortsFresh programs)
@@ -72,11 +64,7 @@ module _ {S F D G K : Type 0} {stores : StoreMeaning S D} {sources : SourceMeani
       text.1 ∙ ap (λ (r : Role). pad_to 0 r.length bytes) (run_role client.runs) in
       record {
         file = text.0;
-        client = λ j other at same.
-            let k_is : k ≡ j = fresh.clients k j client other found at same in
-            let is : client ≡ other =
-            same_Some client other (sym found ∙ (ap (slice_get programs.clients) k_is ∙ at)) in
-            own ∙ ap (client_text programs 0) is;
+        client = search std_rules;
         transfer = λ none opening opened. absurd (none k client found refl);
       }
 
@@ -103,10 +91,8 @@ module _ {S F D G K : Type 0} {stores : StoreMeaning S D} {sources : SourceMeani
 
   sends_text : (mode : Mode) (y : ProgramEnd) → IsEnd programs y →
       BeginsFile mode y.state.role.length y.moved.bytes → SendsText programs 0 y.address mode
-  sends_text mode y (inl of) begins =
-      rw of.3 (client_sends mode of.0 of.1 of.2 (rw of.3 at begins))
-  sends_text mode y (inr of) begins =
-      rw of.4 (transfer_sends mode of.0 of.1 of.2 of.3 (rw of.4 at begins))
+  sends_text mode y (inl of) begins = rw of.3 (client_sends mode of.0 of.1 of.2 (rw of.3 at begins))
+  sends_text mode y (inr of) begins = rw of.4 (transfer_sends _ _ _ _ of.3 (rw of.4 at begins))
 
   -- so each end closes as it may
   closes_as : (x : ProgramEnd) (p : Endpoint) (outcome : Outcome) →

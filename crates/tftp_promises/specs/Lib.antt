@@ -9,7 +9,6 @@ pub mod Ports
 pub mod Openings
 pub mod Given
 pub mod Drafts
-pub mod Arrived
 pub mod Network
 pub mod AnyFiles
 pub mod Hosts

@@ -8,7 +8,7 @@ pub use Rattle.std.specs.List.{AllByRecursion}
 pub use Rattle.std.specs.Prelude.{codes, map, slice_get, ◌==◌, ◌≢◌, ◌⊎◌}
 pub use Rattle.std.specs.String.{string_bytes}
 pub use Rattle.std.specs.declared.io.Error.{Error}
-pub use Rattle.tftp_client.proofs.Witness.{server}
+pub use Rattle.tftp_sockets.proofs.WitnessAddress.{server}
 pub use Rattle.tftp_client.specs.Moved.{Moved}
 pub use Rattle.tftp_client.specs.Ordered.{RunsWords}
 pub use Rattle.tftp_client.specs.Runs.{IsFileOf, moved_by, printed}

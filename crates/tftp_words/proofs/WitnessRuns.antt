@@ -28,6 +28,8 @@ use Rattle.std.proofs.NetLemmas.Theorems.{IsSocketV4Text_unique}
 use Rattle.tftp_sockets.specs.Address.{Names}
 use Rattle.tftp_lines.specs.declared.client_outcome.ClientOutcome.TheVariants as ends
 use Rattle.tftp_ends.specs.declared.outcome.Outcome.TheVariants as outcomes
+use Rattle.tftp_loop.proofs.WitnessPort.{handles}
+use Rattle.tftp_sockets.proofs.WitnessAddress.{its_name}
 use Rattle.tftp_client.proofs.Witness as cl
 use Rattle.tftp_daemon.proofs.WitnessFolder as fo
 use Rattle.tftp_daemon.proofs.WitnessServers as sv
@@ -80,7 +82,7 @@ one_named text a b first second =
 named_server : (text : List ℕ) (a : Endpoint) → Some (codes "1.2.3.4:69") ≡ Some text → Names text (Some a) → a ≡ server
 named_server text a same names =
     one_named text a server names
-    (subst (λ (word : List ℕ). Names word (Some server)) (same_Some (codes "1.2.3.4:69") text same) cl.its_name)
+    (subst (λ (word : List ℕ). Names word (Some server)) (same_Some (codes "1.2.3.4:69") text same) its_name)
 
 pub asks_get : AllAsk server (get_ran ∷ [])
 unfolding clap_on_literals
@@ -309,7 +311,7 @@ abbrev pub got : Both
 got = with_server gives getting
 
 pub get_ports : our_ports got sv.gets ≡ 1024 ∷ []
-unfolding sv.asks_to_read sv.opens_read sv.completes_read sv.closes_read sv.handles
+unfolding sv.asks_to_read sv.opens_read sv.completes_read sv.closes_read handles
 get_ports = refl
 
 pub get_meets : MeetAll get_server get_ran
@@ -333,7 +335,7 @@ abbrev pub put : Both
 put = with_server keeps putting
 
 pub put_ports : our_ports put sv.puts ≡ 1024 ∷ []
-unfolding sv.asks_to_write sv.opens_write sv.stores_write sv.handles
+unfolding sv.asks_to_write sv.opens_write sv.stores_write handles
 put_ports = refl
 
 pub put_meets : MeetAll put_server put_ran

@@ -17,6 +17,7 @@ use Rattle.tftp_words.proofs.WitnessRuns.{asks_get, asks_put, away, fresh_with, 
 use Rattle.tftp_words.proofs.WitnessRuns.{get_ran, get_server, getting, gets_of, gives, gives_ran, keeps, keeps_ran}
 use Rattle.tftp_words.proofs.WitnessRuns.{put_client, put_meets, put_ports, put_ran, put_server, putting, putting_ran}
 use Rattle.tftp_words.proofs.WitnessRuns.{get_delivers, get_order, put_delivers, put_order, requests}
+use Rattle.tftp_loop.proofs.WitnessPort.{handles}
 use Rattle.tftp_daemon.proofs.WitnessServers as sv
 
 abbrev pub All : Type 0
@@ -48,11 +49,11 @@ in_order = record {
 
 -- no other server's port is another one
 none_for_get : other_ports all 0 gives getting ≡ []
-unfolding sv.asks_to_read sv.opens_read sv.completes_read sv.closes_read sv.handles
+unfolding sv.asks_to_read sv.opens_read sv.completes_read sv.closes_read handles
 none_for_get = refl
 
 none_for_put : other_ports all 1 keeps putting ≡ []
-unfolding sv.asks_to_write sv.opens_write sv.stores_write sv.handles
+unfolding sv.asks_to_write sv.opens_write sv.stores_write handles
 none_for_put = refl
 
 ports_apart : there all getting ≢ there all putting
@@ -64,11 +65,11 @@ strange : (s : ServerProgram stores sources requests) (i : ℕ) (c x : ClientPro
 strange s i c x elsewhere apart = search rules
 
 get_fresh : ArePortsFresh (alone all 0 gives getting)
-unfolding sv.asks_to_read sv.opens_read sv.completes_read sv.closes_read sv.handles
+unfolding sv.asks_to_read sv.opens_read sv.completes_read sv.closes_read handles
 get_fresh = fresh_with gives getting get_ports away
 
 put_fresh : ArePortsFresh (alone all 1 keeps putting)
-unfolding sv.asks_to_write sv.opens_write sv.stores_write sv.handles
+unfolding sv.asks_to_write sv.opens_write sv.stores_write handles
 put_fresh = fresh_with keeps putting put_ports away
 
 -- what the servers sent went to their own clients
@@ -122,15 +123,15 @@ put_served = record {
 
 -- ---- the get is not of the second server
 passed_ports : our_ports (alone all 1 keeps getting) keeps.run ≡ []
-unfolding sv.asks_to_write sv.opens_write sv.stores_write sv.handles
+unfolding sv.asks_to_write sv.opens_write sv.stores_write handles
 passed_ports = refl
 
 passed_known : known_ports all keeps getting ≡ 69 ∷ []
-unfolding sv.asks_to_write sv.opens_write sv.stores_write sv.handles
+unfolding sv.asks_to_write sv.opens_write sv.stores_write handles
 passed_known = refl
 
 passed_others : other_ports all 1 keeps getting ≡ 1024 ∷ []
-unfolding sv.asks_to_write sv.opens_write sv.stores_write sv.handles
+unfolding sv.asks_to_write sv.opens_write sv.stores_write handles
 passed_others = refl
 
 not_69 : (port : ℕ) → Contains (69 ∷ []) port → Contains (1024 ∷ []) port → ⊥
