@@ -3,10 +3,11 @@
 
 A wrong body is an edit of a crate that the prover has to refuse. Those in crates/NAME/must-fail/ are tried by each
 gate (`rt ci`), and beside them five of those in the wrong-bodies/ of one crate, which the commit chooses. This tool
-tries the latter by `rt must-fail`, and tools/wrong_bodies.txt has a line for each: `gate`, or the commit by which it
-was last refused, which this tool writes there. Without names all of the second kind are tried, and with --stale only
-such as have changed since, or whose crate has, and such of which nothing is known. The status is 1 where a wrong body
-proves or cannot be read. With --lines only tools/wrong_bodies.txt is written anew.
+tries the latter, as many as may be by one check (lib/batches.py) and the others by `rt must-fail`.
+tools/wrong_bodies.txt has a line for each: `gate`, or the commit by which it was last refused, which this tool writes
+there. Without names all of the second kind are tried, and with --stale only such as have changed since, or whose crate
+has, and such of which nothing is known. The status is 1 where a wrong body proves or cannot be read. With --lines only
+tools/wrong_bodies.txt is written anew.
 """
 import re
 import shutil
@@ -17,6 +18,7 @@ from contextlib import contextmanager, suppress
 from pathlib import Path
 from typing import Iterator, Sequence
 
+from lib.batches import Batches, changes_of
 from lib.kit import below, repository_of
 from lib.programs import TOP, ran
 from lib.seeds import chosen
@@ -116,21 +118,15 @@ def write(known: dict[str, str]) -> None:
 
 def fault_of(body: str) -> str:
     """Why a wrong body cannot be applied, or nothing."""
-    texts, path, old = dict[str, str](), "", ""
-    for line in path_of(body).read_text().splitlines():
-        kind, _, rest = line.partition(":")
-        if kind == "file":
-            path = rest.strip()
-        elif kind == "old":
-            old = rest.removeprefix(" ")
-        elif kind == "new":
-            place = TOP / "crates" / crate_of(body) / path
-            if not place.is_file():
-                return f"there is no {path}"
-            text = texts.get(path) or place.read_text()
-            if text.count(old) != 1:
-                return f"its old text is in {path} {text.count(old)} times"
-            texts[path] = text.replace(old, rest.removeprefix(" "))
+    texts = dict[str, str]()
+    for file, old, new in changes_of(path_of(body).read_text()):
+        place = TOP / "crates" / crate_of(body) / file
+        if not place.is_file():
+            return f"there is no {file}"
+        text = texts.get(file) or place.read_text()
+        if text.count(old) != 1:
+            return f"its old text is in {file} {text.count(old)} times"
+        texts[file] = text.replace(old, new)
     return "" if texts else "it changes nothing"
 
 
@@ -148,14 +144,17 @@ def refused(crate: str, bodies: Sequence[str]) -> set[str]:
     """Those of a crate that the prover refuses, over what earlier checks of the crate have kept. Prints what is said of
     each."""
     room = TOP / f"out/{crate}.bodies"
-    folder = repository_of(crate, room) / GATE
-    folder.mkdir()
-    for body in bodies:
-        shutil.copy2(path_of(body), folder)
-    said = ran("rt", "must-fail", crate, cwd=room, timeout=None)
+    folder = repository_of(crate, room)
+    found, alone = Batches(folder, {body: changes_of(path_of(body).read_text()) for body in bodies}).tried()
+    if alone:
+        (folder / GATE).mkdir()
+        for body in alone:
+            shutil.copy2(path_of(body), folder / GATE)
+        said = ran("rt", "must-fail", crate, cwd=room, timeout=None)
+        print(said.stdout, said.stderr, sep="", flush=True)
+        found |= {*re.findall(r"must-fail (\S+)\.edit: refused", said.stdout + said.stderr)}
     shutil.rmtree(room)
-    print(said.stdout, said.stderr, sep="", flush=True)
-    return {*re.findall(r"must-fail (\S+)\.edit: refused", said.stdout + said.stderr)}
+    return found
 
 
 def chosen_by(names: Sequence[str], is_stale: bool = False) -> list[str]:

@@ -1,14 +1,34 @@
-"""Which wrong bodies are tried, and what the list has of them."""
+"""Which wrong bodies are tried, which of them by one check, and what the list has of them."""
 import os
 import re
 import shutil
 import sys
 from pathlib import Path
+from subprocess import CompletedProcess
 
 import pytest
 
 import wrong_bodies
+from lib import batches
 from lib.programs import ran
+
+CODE = """\
+impl<'a> Counts for Port<'a> {
+    fn count(&self) -> u8 {
+        1
+    }
+
+    fn sent(&self) -> u8 {
+        self.count() + 2 + 3
+    }
+}
+
+fn waits() -> u8 {
+    4
+}
+
+const MOST: u8 = 5;
+"""
 
 
 def committed(top: Path) -> str:
@@ -48,8 +68,7 @@ def test_what_cannot_be_applied(edit: str, fault: str, top: Path) -> None:
 def test_what_rt_says(said: str, status: int, top: Path, monkeypatch: pytest.MonkeyPatch) -> None:
     """A stand-in takes the place of the prover. What it refuses is recorded with the commit."""
     def repository_of(crate: str, room: Path) -> Path:
-        (room / "crates" / crate).mkdir(parents=True)
-        return room / "crates" / crate
+        return Path(shutil.copytree(top / "crates" / crate, room / "crates" / crate))
 
     (top / "rt").write_text(f"#!/bin/sh\ntest -e crates/a/must-fail/two.edit && echo 'must-fail a/two.edit: {said}'\n")
     (top / "rt").chmod(0o755)
@@ -60,6 +79,32 @@ def test_what_rt_says(said: str, status: int, top: Path, monkeypatch: pytest.Mon
     first = wrong_bodies.recorded()["a/two"]
     assert wrong_bodies.main() == status
     assert wrong_bodies.recorded() == {"a/two": first[:10] if status == 0 else first, "b/two": first}
+
+
+def test_many_by_one_check(tmp_path: Path, monkeypatch: pytest.MonkeyPatch) -> None:
+    """A stand-in takes the place of the prover: it refuses what is changed but in `waits`, and gives no verdict on
+    what calls a changed function. Each check has a wrong body of each function; one of a constant is tried alone, and
+    so is one that proves."""
+    source, checks = tmp_path / "src/port.rt", list[str]()
+    source.parent.mkdir()
+    source.write_text(CODE)
+
+    def check(*words: str, **how: object) -> "CompletedProcess[str]":
+        text = source.read_text()
+        checks.append(text)
+        count, sent = ("not proved" if line not in text else "proved" for line in ["        1\n", "() + 2 + 3\n"])
+        if "not" in count:
+            sent = "no proof: it calls `a::port::PortCounts::count`, which is not proved"
+        said = [f"fn a::port::PortCounts::count: {count}", f"fn a::port::PortCounts::sent: {sent}",
+                "fn a::port::waits: proved", "logic=not-proved"]
+        return CompletedProcess(words, 1, "\n".join(said), "")
+
+    monkeypatch.setattr(batches, "ran", check)
+    bodies = {name: [batches.Change("src/port.rt", old, "0")]
+              for name, old in [("one", "1"), ("two", "2"), ("three", "3"), ("four", "4"), ("five", "5")]}
+    assert batches.Batches(tmp_path, bodies).tried() == ({"one", "two", "three"}, ["five", "four"])
+    assert ["".join(re.findall(r"\b\d\b", text)) for text in checks] == ["00305", "10345", "12045"]
+    assert source.read_text() == CODE
 
 
 def test_one_that_was_tried_by_the_gate(top: Path) -> None:
