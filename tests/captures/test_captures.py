@@ -289,9 +289,12 @@ def test_tshark(tmp_path: Path) -> None:
 @contextmanager
 def recording(where: str, host: str, path: Path) -> Iterator[None]:
     """A tcpdump records what this address sends and receives meanwhile. It begins to record behind its first line,
-    and later on a busy host: what was sent before a mark that it has is there, too."""
+    and later on a busy host: what was sent before a mark that it has is there, too. A busy host may give it no
+    processor for a while, so it is stopped meanwhile: the kernel keeps two thousand frames of 4 KB for it. (Without
+    these words it keeps 16 frames of `lo`, since each has room for 64 KB.)"""
     needs("tcpdump")
-    words = ["tcpdump", "-i", where, "--immediate-mode", "-U", "-w", path, "-Z", "root", "udp", "and", "host", host]
+    words = ["tcpdump", "-i", where, "--snapshot-length=4096", "--buffer-size=8192", "--immediate-mode", "-U",
+             "-w", path, "-Z", "root", "udp", "and", "host", host]
     with Program(words, path.parent, 10 * PATIENCE) as dump, Port(host).socket as port:
         def has(mark: bytes) -> bool:
             # (to the port of `discard`)
@@ -302,10 +305,12 @@ def recording(where: str, host: str, path: Path) -> Iterator[None]:
         if dump.process.poll() is not None:
             pytest.skip(f"tcpdump may not capture at {where}")
         wait_until(lambda: has(b"from here on"), "that tcpdump records")
+        dump.signal(signal.SIGSTOP)
         yield
+        dump.signal(signal.SIGCONT)
         wait_until(lambda: has(b"up to here"), "that tcpdump has recorded all")
         dump.signal(signal.SIGTERM)
-        dump.ended()
+        assert "\n0 packets dropped by kernel" in dump.ended()[2]
 
 
 def commands(host: str) -> Iterator[list[Any]]:
