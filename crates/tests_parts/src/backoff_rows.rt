@@ -1,12 +1,11 @@
 //! How long an end waits, timeout by timeout (RFC 1123, section 4.2.3.2; RFC 2349, "Timeout Interval
 //! Option Specification").
 
-use crate::expect::expect_equal;
-use crate::open_end::{CONFIG, OpenEnd, SERVER, SERVER_END, reader};
-use std::alloc::Global;
-use std::process::Abort;
+use crate::open_end::Event::{Arrives, TimesOut, Waits};
+use crate::open_end::{
+    ACK_0, CONFIG, Opening, PROGRESS, SERVER, SERVER_END, STAYS, Scene, play_each,
+};
 use tftp_ends::Backoff;
-use tftp_file::MemSource;
 use tftp_negotiate::Asked;
 use tftp_wire::Mode;
 
@@ -15,58 +14,78 @@ const RRQ: &[u8] = b"\x00\x01a\x00octet\x00timeout\x003\x00";
 /// A timeout of three seconds is agreed. ACK 0 answers it.
 const OACK: &[u8] = b"\x00\x06timeout\x003\x00";
 
-const ACK_0: &[u8] = b"\x00\x04\x00\x00";
+/// Requests a timeout of three seconds.
+const THREE: Asked = Asked {
+    blksize: None,
+    timeout: Some(3),
+    tsize: None,
+};
 
-/// A client with five retries that has requested a timeout of three seconds.
-fn reading(rt: &impl Abort, alloc: Global) -> OpenEnd<MemSource> {
-    let asked = Asked {
-        blksize: None,
-        timeout: Some(3),
-        tsize: None,
-    };
-    reader(rt, alloc, b"a", Mode::Octet, &asked, &CONFIG)
-}
+/// A client with five retries that requests a timeout of three seconds.
+const GET: Opening = Opening::Get(b"a", Mode::Octet, THREE, CONFIG);
 
-/// The end waits so many seconds for its next timeout.
-fn waits(rt: &impl Abort, end: &OpenEnd<MemSource>, backoff: Backoff, seconds: u16) {
-    let end = end.as_end();
-    let found = backoff.wait(end.interval(), end.timeouts());
-    expect_equal(rt, &found, &seconds, "seconds until the next timeout");
-}
+const SCENES: [Scene; 3] = [
+    // Twice as long after each timeout, up to eight times.
+    Scene {
+        name: "waits double",
+        opening: GET,
+        sends: (RRQ, SERVER),
+        events: &[
+            Waits(Backoff::Doubling, 1),
+            TimesOut(RRQ, SERVER, STAYS),
+            Waits(Backoff::Doubling, 2),
+            TimesOut(RRQ, SERVER, STAYS),
+            Waits(Backoff::Doubling, 4),
+            TimesOut(RRQ, SERVER, STAYS),
+            Waits(Backoff::Doubling, 8),
+            TimesOut(RRQ, SERVER, STAYS),
+            Waits(Backoff::Doubling, 8),
+            TimesOut(RRQ, SERVER, STAYS),
+            Waits(Backoff::Doubling, 8),
+        ],
+    },
+    Scene {
+        name: "waits stay equal",
+        opening: GET,
+        sends: (RRQ, SERVER),
+        events: &[
+            Waits(Backoff::Constant, 1),
+            TimesOut(RRQ, SERVER, STAYS),
+            Waits(Backoff::Constant, 1),
+            TimesOut(RRQ, SERVER, STAYS),
+            Waits(Backoff::Constant, 1),
+            TimesOut(RRQ, SERVER, STAYS),
+            Waits(Backoff::Constant, 1),
+            TimesOut(RRQ, SERVER, STAYS),
+            Waits(Backoff::Constant, 1),
+            TimesOut(RRQ, SERVER, STAYS),
+            Waits(Backoff::Constant, 1),
+        ],
+    },
+    // Progress begins again at one interval, which is the agreed one then.
+    Scene {
+        name: "progress begins again",
+        opening: GET,
+        sends: (RRQ, SERVER),
+        events: &[
+            TimesOut(RRQ, SERVER, STAYS),
+            Waits(Backoff::Doubling, 2),
+            Arrives(SERVER_END, OACK, ACK_0, PROGRESS),
+            Waits(Backoff::Doubling, 3),
+            TimesOut(ACK_0, SERVER_END, STAYS),
+            Waits(Backoff::Doubling, 6),
+            TimesOut(ACK_0, SERVER_END, STAYS),
+            Waits(Backoff::Doubling, 12),
+            TimesOut(ACK_0, SERVER_END, STAYS),
+            Waits(Backoff::Doubling, 24),
+            TimesOut(ACK_0, SERVER_END, STAYS),
+            Waits(Backoff::Doubling, 24),
+            TimesOut(ACK_0, SERVER_END, STAYS),
+        ],
+    },
+];
 
-/// Twice as long after each timeout, up to eight times.
 #[test]
-fn waits_double(rt: HostRuntime) {
-    let mut end = reading(&rt, rt.alloc());
-    for seconds in [1, 2, 4, 8, 8] {
-        waits(&rt, &end, Backoff::Doubling, seconds);
-        end.times_out(&rt, RRQ, Some(SERVER), None);
-    }
-    waits(&rt, &end, Backoff::Doubling, 8);
-    end.finish();
-}
-
-#[test]
-fn waits_stay_equal(rt: HostRuntime) {
-    let mut end = reading(&rt, rt.alloc());
-    for _ in 0..5 {
-        waits(&rt, &end, Backoff::Constant, 1);
-        end.times_out(&rt, RRQ, Some(SERVER), None);
-    }
-    waits(&rt, &end, Backoff::Constant, 1);
-    end.finish();
-}
-
-/// Progress begins again at one interval, which is the agreed one then.
-#[test]
-fn progress_begins_again(rt: HostRuntime) {
-    let mut end = reading(&rt, rt.alloc());
-    end.times_out(&rt, RRQ, Some(SERVER), None);
-    waits(&rt, &end, Backoff::Doubling, 2);
-    end.answers(&rt, SERVER_END, OACK, ACK_0);
-    for seconds in [3, 6, 12, 24, 24] {
-        waits(&rt, &end, Backoff::Doubling, seconds);
-        end.times_out(&rt, ACK_0, Some(SERVER_END), None);
-    }
-    end.finish();
+fn waits(rt: HostRuntime) {
+    play_each(&rt, rt.alloc(), &SCENES);
 }

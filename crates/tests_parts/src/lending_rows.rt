@@ -1,13 +1,15 @@
-//! The calls of an end that lend the datagram to send instead of appending it.
+//! The calls of an end that lend the datagram to send instead of appending it, and the values of
+//! `tftp_ends`.
 
 use crate::expect::expect_equal;
-use crate::open_end::{CONFIG, EIGHT, OpenEnd, SERVER, reader};
-use std::alloc::Global;
+use crate::open_end::Event::{Lends, LendsAfterTimeout, Lent, Waits};
+use crate::open_end::{
+    ACK_1, CONFIG, DATA_1, EIGHT, NOTHING, Opening, PROGRESS, REFUSED, RRQ_A, SERVER, STAYS, Scene,
+    play_each,
+};
 use std::net::{Ipv4Addr, SocketAddrV4};
-use std::process::Abort;
-use tftp_ends::{End, EndConfig, EndFault, Endpoint, ErrorReply, Outcome, Outgoing, decode_packet};
-use tftp_file::MemSource;
-use tftp_negotiate::{Asked, Limits};
+use tftp_ends::{Backoff, End, EndConfig, Endpoint, ErrorReply, Outcome, Outgoing, decode_packet};
+use tftp_negotiate::Limits;
 use tftp_wire::Mode;
 
 const STRANGER: Endpoint = Endpoint {
@@ -23,36 +25,58 @@ const NO_RETRY: EndConfig = EndConfig {
     retries: 0,
 };
 
-const RRQ_A: &[u8] = b"\x00\x01a\x00octet\x00";
-
-const ACK_1: &[u8] = b"\x00\x04\x00\x01";
-
 const UNKNOWN_ID: &[u8] = b"\x00\x05\x00\x05unknown transfer id\x00";
 
-/// A client that has sent a request for the file `a`, and has no retry.
-fn client(rt: &impl Abort, alloc: Global) -> OpenEnd<MemSource> {
-    reader(rt, alloc, b"a", Mode::Octet, &Asked::default(), &NO_RETRY)
-}
+/// A client that requests the file `a`, and has no retry.
+const GET_A: Opening = Opening::Get(b"a", Mode::Octet, NOTHING, NO_RETRY);
 
-/// The end lends these bytes.
-fn lends(rt: &impl Abort, open: &OpenEnd<MemSource>, outgoing: Outgoing, bytes: &[u8]) {
-    expect_equal(
-        rt,
-        &open.as_end().bytes_of(outgoing),
-        &bytes,
-        "what is lent",
-    );
-}
+const SCENES: [Scene; 4] = [
+    Scene {
+        name: "the last datagram sent is the request",
+        opening: GET_A,
+        sends: (RRQ_A, SERVER),
+        events: &[
+            Lent(Outgoing::LastSent, RRQ_A),
+            Lent(Outgoing::Nothing, b""),
+            Lent(Outgoing::Error(ErrorReply::UnknownTransferId), UNKNOWN_ID),
+        ],
+    },
+    // The interval is a second where no timeout is agreed.
+    Scene {
+        name: "an ACK is lent",
+        opening: GET_A,
+        sends: (RRQ_A, SERVER),
+        events: &[
+            Lends(SERVER, DATA_1, ACK_1, PROGRESS),
+            Waits(Backoff::Constant, 1),
+        ],
+    },
+    // A datagram from another address is answered by ERROR 5 (RFC 1350, section 4), and the request
+    // stays the last datagram.
+    Scene {
+        name: "an ERROR to a wrong peer is lent",
+        opening: GET_A,
+        sends: (RRQ_A, SERVER),
+        events: &[
+            Lends(STRANGER, ACK_1, UNKNOWN_ID, STAYS),
+            Lent(Outgoing::LastSent, RRQ_A),
+        ],
+    },
+    // The end closes without a datagram, and stays closed.
+    Scene {
+        name: "a timeout without a retry lends nothing",
+        opening: GET_A,
+        sends: (RRQ_A, SERVER),
+        events: &[
+            LendsAfterTimeout(b"", SERVER, Ok((false, Some(Outcome::TimedOut)))),
+            LendsAfterTimeout(b"", SERVER, REFUSED),
+        ],
+    },
+];
 
-/// The last datagram sent is the request.
 #[test]
-fn the_last_datagram_is_lent(rt: HostRuntime) {
-    let client = client(&rt, rt.alloc());
-    lends(&rt, &client, Outgoing::LastSent, RRQ_A);
-    lends(&rt, &client, Outgoing::Nothing, b"");
-    let unknown = Outgoing::Error(ErrorReply::UnknownTransferId);
-    lends(&rt, &client, unknown, UNKNOWN_ID);
-    client.finish();
+fn lending_scenes(rt: HostRuntime) {
+    play_each(&rt, rt.alloc(), &SCENES);
 }
 
 const WRQ_A: &[u8] = b"\x00\x02a\x00octet\x00blksize\x008\x00";
@@ -61,7 +85,7 @@ const WRQ_A: &[u8] = b"\x00\x02a\x00octet\x00blksize\x008\x00";
 #[test]
 fn a_request_is_lent(rt: HostRuntime) {
     let (alloc, mode) = (rt.alloc(), Mode::Octet);
-    let reader = End::open_get(alloc, SERVER, b"a", mode, &Asked::default(), &CONFIG);
+    let reader = End::open_get(alloc, SERVER, b"a", mode, &NOTHING, &CONFIG);
     let reader = reader.expect(&rt, "it asks to read");
     let found = reader.bytes_of(Outgoing::LastSent);
     expect_equal(&rt, &found, &RRQ_A, "a read request");
@@ -69,38 +93,6 @@ fn a_request_is_lent(rt: HostRuntime) {
     let writer = writer.expect(&rt, "it asks to write");
     let found = writer.bytes_of(Outgoing::LastSent);
     expect_equal(&rt, &found, &WRQ_A, "a write request");
-}
-
-#[test]
-fn an_ack_is_lent(rt: HostRuntime) {
-    let mut client = client(&rt, rt.alloc());
-    client.lends(&rt, SERVER, b"\x00\x03\x00\x01ABC", ACK_1);
-    let interval = client.as_end().interval();
-    expect_equal(&rt, &interval, &1, "a second where no timeout is agreed");
-    client.finish();
-}
-
-/// A datagram from another address is answered by ERROR 5 (RFC 1350, section 4), and the request
-/// stays the last datagram.
-#[test]
-fn an_error_to_a_wrong_peer_is_lent(rt: HostRuntime) {
-    let mut client = client(&rt, rt.alloc());
-    client.lends(&rt, STRANGER, ACK_1, UNKNOWN_ID);
-    lends(&rt, &client, Outgoing::LastSent, RRQ_A);
-    client.finish();
-}
-
-/// The end closes without a datagram, and stays closed.
-#[test]
-fn a_timeout_without_a_retry_lends_nothing(rt: HostRuntime) {
-    let mut client = client(&rt, rt.alloc());
-    let found = client.handle_timeout().ok();
-    let expected = (Some(Outcome::TimedOut), Outgoing::Nothing);
-    expect_equal(&rt, &found, &Some(expected), "it gives up in silence");
-    let found = (client.as_end().outcome(), client.handle_timeout().err());
-    let expected = (Some(Outcome::TimedOut), Some(EndFault::Closed));
-    expect_equal(&rt, &found, &expected, "it stays closed");
-    client.finish();
 }
 
 #[test]

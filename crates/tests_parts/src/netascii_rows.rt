@@ -1,9 +1,6 @@
 //! Netascii: host bytes and their wire text, pieces of it, and lengths on the wire (RFC 764).
 
 use crate::expect::{expect_bytes, expect_equal};
-use crate::netascii_end_rows::{
-    a_length_is_reported_in_octet, files_travel_as_wire_text, wrong_text_closes_a_receiver,
-};
 use std::alloc::Global;
 use std::io::{Error, ErrorKind, Read, Result as IoResult};
 use std::process::Abort;
@@ -181,8 +178,7 @@ fn has_length(rt: &impl Abort, host: &[u8], mode: Mode, expected: usize) {
     );
 }
 
-/// A text in pieces; lengths on the wire of three files, and how they travel; a text that is not
-/// netascii, and an empty one.
+/// A text in pieces, and lengths on the wire of three files.
 #[test]
 fn netascii_rows(rt: HostRuntime) {
     let rt = &rt;
@@ -191,9 +187,6 @@ fn netascii_rows(rt: HostRuntime) {
     has_length(rt, b"\r\nA", Mode::Netascii, 5);
     has_length(rt, &[b'\n'; 256], Mode::Netascii, 512);
     has_length(rt, &long_line(rt, rt.alloc()), Mode::Netascii, 513);
-    files_travel_as_wire_text(rt, rt.alloc());
-    wrong_text_closes_a_receiver(rt, rt.alloc());
-    a_length_is_reported_in_octet(rt, rt.alloc());
 }
 
 #[test]

@@ -1,16 +1,14 @@
-//! An end with its file, and the calls of the tests on it. A call aborts if the end refuses it.
-
-ghost use Rattle.std.specs.Prelude.{◌≡◌, false, IfOk};
-ghost use Rattle.tftp_ends.specs.End.{is_sender};
+//! An end with its file, and scenes: what arrives at one end, and what it has to do.
 
 use crate::expect::expect_equal;
 use std::alloc::Global;
 use std::marker::Model;
 use std::process::Abort;
 use tftp_ends::{
-    End, EndConfig, EndFault, Endpoint, OpenFault, Outcome, Outgoing, Record, Step, decode_packet,
+    Backoff, End, EndConfig, EndFault, Endpoint, Held, OpenFault, Outcome, Outgoing, Record, Side,
+    Step, decode_packet,
 };
-use tftp_file::{Files, MemSink, MemSource, Source, wire_length};
+use tftp_file::{FaultSource, Files, MemSink};
 use tftp_negotiate::{Agreed, Asked, Kind, Limits, accept_ref};
 use tftp_wire::{Mode, PacketRef};
 
@@ -37,6 +35,12 @@ pub(crate) const CONFIG: EndConfig = EndConfig {
     retries: 5,
 };
 
+pub(crate) const NOTHING: Asked = Asked {
+    blksize: None,
+    timeout: None,
+    tsize: None,
+};
+
 /// Blocks of eight bytes.
 pub(crate) const EIGHT: Asked = Asked {
     blksize: Some(8),
@@ -44,52 +48,150 @@ pub(crate) const EIGHT: Asked = Asked {
     tsize: None,
 };
 
+/// A read request for `a` in octet, without options.
+pub(crate) const RRQ_A: &[u8] = b"\x00\x01a\x00octet\x00";
+
+/// A read request for `a` in octet, by blocks of eight bytes.
+pub(crate) const RRQ_8: &[u8] = b"\x00\x01a\x00octet\x00blksize\x008\x00";
+
+/// A write request for `n` in octet, by blocks of eight bytes.
+pub(crate) const WRQ_8: &[u8] = b"\x00\x02n\x00octet\x00blksize\x008\x00";
+
+pub(crate) const OACK_8: &[u8] = b"\x00\x06blksize\x008\x00";
+
+pub(crate) const ACK_0: &[u8] = b"\x00\x04\x00\x00";
+
+pub(crate) const ACK_1: &[u8] = b"\x00\x04\x00\x01";
+
+pub(crate) const ACK_2: &[u8] = b"\x00\x04\x00\x02";
+
+/// DATA 1 of three letters.
+pub(crate) const DATA_1: &[u8] = b"\x00\x03\x00\x01ABC";
+
+pub(crate) const EMPTY_DATA_2: &[u8] = b"\x00\x03\x00\x02";
+
+/// DATA 1 of 512 letters `x`, 64 on a line.
+pub(crate) const FULL_DATA_1: &[u8] = b"\x00\x03\x00\x01\
+xxxxxxxxxxxxxxxxxxxxxxxxxxxxxxxxxxxxxxxxxxxxxxxxxxxxxxxxxxxxxxxx\
+xxxxxxxxxxxxxxxxxxxxxxxxxxxxxxxxxxxxxxxxxxxxxxxxxxxxxxxxxxxxxxxx\
+xxxxxxxxxxxxxxxxxxxxxxxxxxxxxxxxxxxxxxxxxxxxxxxxxxxxxxxxxxxxxxxx\
+xxxxxxxxxxxxxxxxxxxxxxxxxxxxxxxxxxxxxxxxxxxxxxxxxxxxxxxxxxxxxxxx\
+xxxxxxxxxxxxxxxxxxxxxxxxxxxxxxxxxxxxxxxxxxxxxxxxxxxxxxxxxxxxxxxx\
+xxxxxxxxxxxxxxxxxxxxxxxxxxxxxxxxxxxxxxxxxxxxxxxxxxxxxxxxxxxxxxxx\
+xxxxxxxxxxxxxxxxxxxxxxxxxxxxxxxxxxxxxxxxxxxxxxxxxxxxxxxxxxxxxxxx\
+xxxxxxxxxxxxxxxxxxxxxxxxxxxxxxxxxxxxxxxxxxxxxxxxxxxxxxxxxxxxxxxx";
+
+pub(crate) const DISK_FULL: &[u8] = b"\x00\x05\x00\x03disk full\x00";
+
+/// A client that has sent a request to read: no peer, and the default block size.
+pub(crate) const ASKED_TO_READ: Record = Record {
+    side: Side::ClientRead,
+    peer: None,
+    size: 512,
+    timeout: None,
+    number: 0,
+    complete: false,
+    outcome: None,
+};
+
 /// The capacity of a sink: more than the longest file of the tests.
 const ROOM: u64 = 1_000_000;
 
-/// What a source does after the bytes that it gives.
+/// How an end is opened. A server's end has five retries.
 #[derive(Clone, Copy)]
-pub(crate) enum AtEnd {
-    Stops,
-    Fails,
+pub(crate) enum Opening {
+    /// A client requests to read the file of this name, in this mode, with these options.
+    Get(&'static [u8], Mode, Asked, EndConfig),
+    /// A client requests to write the file as `n` in octet, as one of this length, with these
+    /// options.
+    Put(u64, &'static [u8], Asked, EndConfig),
+    /// A server's end answers this request in this mode by the file, as one of this length on the
+    /// wire.
+    ServeRead(&'static [u8], Mode, u64, &'static [u8]),
+    /// A server's end answers a write in octet that has the options of this read request. Its sink
+    /// may refuse each commit.
+    ServeWrite(&'static [u8], bool),
 }
 
-impl AtEnd {
-    pub(crate) fn fails(self) -> bool {
-        match self {
-            AtEnd::Stops => false,
-            AtEnd::Fails => true,
-        }
-    }
-}
-
-/// How a sink handles its commit.
+/// How many bytes a source gives at most, and whether it then fails.
 #[derive(Clone, Copy)]
-pub(crate) enum AtCommit {
-    Succeeds,
-    Refuses,
+pub(crate) struct Gives {
+    pub(crate) bytes: u64,
+    pub(crate) then_fails: bool,
 }
 
-impl AtCommit {
-    /// An empty sink whose commit goes so.
-    fn sink(self, alloc: Global) -> MemSink {
-        match self {
-            AtCommit::Succeeds => MemSink::new(alloc, ROOM, false),
-            AtCommit::Refuses => MemSink::new(alloc, ROOM, true),
-        }
-    }
+/// The whole file, and no fault.
+pub(crate) const WHOLE: Gives = Gives {
+    bytes: u64::MAX,
+    then_fails: false,
+};
+
+/// Whether an event is progress, and how it closes the end, or the fault by which the end refuses
+/// it.
+pub(crate) type Then = Result<(bool, Option<Outcome>), EndFault>;
+
+/// The peer became known, a block was new, or the end became complete.
+pub(crate) const PROGRESS: Then = Ok((true, None));
+
+/// The end stays as it was.
+pub(crate) const STAYS: Then = Ok((false, None));
+
+/// The last block was acknowledged.
+pub(crate) const COMPLETES: Then = Ok((true, Some(Outcome::Complete)));
+
+/// The file is longer than the limit, or than blocks of the agreed size carry.
+pub(crate) const TOO_LARGE: Then = Ok((false, Some(Outcome::TooLarge)));
+
+/// The sink refuses a call.
+pub(crate) const STORE_FAULT: Then = Ok((false, Some(Outcome::StoreFault)));
+
+/// The end is closed, and refuses the event.
+pub(crate) const REFUSED: Then = Err(EndFault::Closed);
+
+/// What happens at an end, or what is asked of it. The end answers a datagram by the second bytes
+/// of its row, or not at all if they are empty.
+#[derive(Clone, Copy)]
+pub(crate) enum Event {
+    /// This datagram arrives from this endpoint, and is answered so.
+    Arrives(Endpoint, &'static [u8], &'static [u8], Then),
+    /// After a timeout the end sends these bytes to this endpoint.
+    TimesOut(&'static [u8], Endpoint, Then),
+    /// The same, and the end lends the answer.
+    Lends(Endpoint, &'static [u8], &'static [u8], Then),
+    /// After a timeout the end lends these bytes, to be sent to this endpoint.
+    LendsAfterTimeout(&'static [u8], Endpoint, Then),
+    /// The end lends these bytes.
+    Lent(Outgoing, &'static [u8]),
+    /// The sink is set to refuse its next call.
+    SinkIsSet,
+    /// The end waits so many seconds for its next timeout.
+    Waits(Backoff, u16),
+    /// The end keeps so many bytes.
+    Keeps(Held),
+    /// The end reports this.
+    Reports(Record),
+    /// The sink holds these bytes, and has committed them or not.
+    Holds(&'static [u8], bool),
 }
 
-/// An end, its file, its last step, and the datagram of that step.
+/// An opened end, what it sends first and to whom, and what happens then.
+#[derive(Clone, Copy)]
+pub(crate) struct Scene {
+    pub(crate) name: &'static str,
+    pub(crate) opening: Opening,
+    pub(crate) sends: (&'static [u8], Endpoint),
+    pub(crate) events: &'static [Event],
+}
+
+/// An end, its file, and the step of its opening.
 #[derive(Drop)]
-pub(crate) struct OpenEnd<S: Source + Drop> {
+pub(crate) struct OpenEnd {
     end: End,
-    files: Files<S, MemSink>,
-    step: Step,
-    sent: Vec<u8>,
+    files: Files<FaultSource, MemSink>,
+    first: Step,
 }
 
-impl<S: Source + Drop> Model for OpenEnd<S> {
+impl Model for OpenEnd {
     ghost use Rattle.std.specs.Prelude.{⊤};
     ghost use Rattle.tftp_ends.specs.Files.{AreFilesOf};
 
@@ -100,76 +202,35 @@ impl<S: Source + Drop> Model for OpenEnd<S> {
     ghost invariant = { λ e. AreFilesOf e.end.role.side e.files };
 }
 
-/// A client that has sent a read request.
-pub(crate) fn reader(
-    rt: &impl Abort,
+/// An opened client that reads.
+fn get(
     alloc: Global,
     name: &[u8],
     mode: Mode,
     asked: &Asked,
     config: &EndConfig,
-) -> OpenEnd<MemSource> {
-    let mut sent = Vec::new(alloc);
-    let (end, step) = End::get(alloc, SERVER, name, mode, asked, config, &mut sent).expect(
-        rt,
-        "it asks to read",
-    );
-    OpenEnd {
-        end,
-        files: Files::Sink(MemSink::new(alloc, ROOM, false)),
-        step,
-        sent,
+    sent: &mut Vec<u8>,
+) -> Result<OpenEnd, OpenFault> {
+    match End::get(alloc, SERVER, name, mode, asked, config, sent) {
+        Ok((end, first)) => Ok(OpenEnd {
+            end,
+            files: Files::Sink(MemSink::new(alloc, ROOM, false)),
+            first,
+        }),
+        Err(fault) => Err(fault),
     }
 }
 
-/// A client refuses this read request, and sends nothing.
-pub(crate) fn is_bad_request(rt: &impl Abort, alloc: Global, name: &[u8], asked: &Asked) {
-    let mut out = Vec::new(alloc);
-    let refused = End::get(alloc, SERVER, name, Mode::Octet, asked, &CONFIG, &mut out);
-    let found = (name, asked, refused.err(), out.is_empty());
-    let expected = (name, asked, Some(OpenFault::BadRequest), true);
-    expect_equal(
-        rt,
-        &found,
-        &expected,
-        "a wrong request, and nothing is sent",
-    );
-}
-
-/// A client refuses a write request for a file of this length, and sends nothing.
-pub(crate) fn is_too_long(rt: &impl Abort, alloc: Global, asked: &Asked, length: u64) {
-    let mut out = Vec::new(alloc);
-    let refused = End::put(
-        alloc,
-        SERVER,
-        b"n",
-        Mode::Octet,
-        asked,
-        length,
-        &CONFIG,
-        &mut out,
-    );
-    let found = (length, refused.err(), out.is_empty());
-    let expected = (length, Some(OpenFault::TooLarge), true);
-    expect_equal(
-        rt,
-        &found,
-        &expected,
-        "too long a file, and nothing is sent",
-    );
-}
-
-/// A client that has sent a write request for a file `n` of this length in octet.
-pub(crate) fn writer<S: Source + Drop>(
-    rt: &impl Abort,
+/// An opened client that writes.
+fn put(
     alloc: Global,
     asked: &Asked,
     config: &EndConfig,
     length: u64,
-    source: S,
-) -> OpenEnd<S> {
-    let mut sent = Vec::new(alloc);
-    let opened = End::put(
+    source: FaultSource,
+    sent: &mut Vec<u8>,
+) -> Result<OpenEnd, OpenFault> {
+    match End::put(
         alloc,
         SERVER,
         b"n",
@@ -177,18 +238,18 @@ pub(crate) fn writer<S: Source + Drop>(
         asked,
         length,
         config,
-        &mut sent,
-    );
-    let (end, step) = opened.expect(rt, "it asks to write");
-    OpenEnd {
-        end,
-        files: Files::Source(source),
-        step,
         sent,
+    ) {
+        Ok((end, first)) => Ok(OpenEnd {
+            end,
+            files: Files::Source(source),
+            first,
+        }),
+        Err(fault) => Err(fault),
     }
 }
 
-/// The options agreed for a read request, with a file of this length.
+/// The options agreed for a request, with a file of this length.
 pub(crate) fn agreed_of(rt: &impl Abort, request: &[u8], length: u64) -> Agreed {
     let Some(PacketRef::Read(asks)) = decode_packet(request) else {
         panic!(rt; "a request to read");
@@ -199,107 +260,100 @@ pub(crate) fn agreed_of(rt: &impl Abort, request: &[u8], length: u64) -> Agreed 
     )
 }
 
-/// A server's end that sends a file of this length to the client.
-pub(crate) fn sender<S: Source + Drop>(
-    rt: &impl Abort,
+/// A server's end that sends.
+pub(crate) fn serve_read(
     alloc: Global,
     mode: Mode,
     agreed: &Agreed,
     length: u64,
-    source: S,
-) -> OpenEnd<S> {
-    let mut sent = Vec::new(alloc);
-    let mut files: Files<S, MemSink> = Files::Source(source);
-    let opened = End::serve_read(
-        alloc, &mut files, CLIENT, mode, agreed, length, 5, &mut sent,
-    );
-    let (end, step) = opened.expect(rt, "it serves a read");
-    OpenEnd {
-        end,
-        files,
-        step,
-        sent,
-    }
-}
-
-/// A server's end refuses to send a file of this length with these options, and sends nothing.
-pub(crate) fn is_too_long_to_serve(rt: &impl Abort, alloc: Global, agreed: &Agreed, length: u64) {
-    let mut out = Vec::new(alloc);
-    let mut files: Files<MemSource, MemSink> = Files::Source(source_of(
-        rt,
-        alloc,
-        b"",
-        Mode::Octet,
-    ));
-    let refused = End::serve_read(
-        alloc,
-        &mut files,
-        CLIENT,
-        Mode::Octet,
-        agreed,
-        length,
-        5,
-        &mut out,
-    );
-    let found = (length, refused.err(), out.is_empty());
-    let expected = (length, Some(OpenFault::TooLarge), true);
-    expect_equal(
-        rt,
-        &found,
-        &expected,
-        "too long a file, and nothing is sent",
-    );
-}
-
-/// A server's end that sends this file from memory, as the answer to the request.
-pub(crate) fn sender_of(
-    rt: &impl Abort,
-    alloc: Global,
-    request: &[u8],
-    mode: Mode,
-    file: &[u8],
-) -> OpenEnd<MemSource> {
-    let source = source_of(rt, alloc, file, mode);
-    let length = wire_length(file, mode).expect(rt, "bytes in memory are read");
-    let agreed = agreed_of(rt, request, length);
-    sender(rt, alloc, mode, &agreed, length, source)
-}
-
-/// A file in memory.
-pub(crate) fn source_of(rt: &impl Abort, alloc: Global, file: &[u8], mode: Mode) -> MemSource {
-    MemSource::new(alloc, file, mode).expect(rt, "memory")
-}
-
-/// A server's end that receives a file in octet.
-pub(crate) fn serve_write(
-    alloc: Global,
-    agreed: &Agreed,
+    source: FaultSource,
     sent: &mut Vec<u8>,
-) -> Result<(End, Step), OpenFault>
-    ensures { IfOk result (λ opened. is_sender opened.0.role.side ≡ false) }
-{
-    End::serve_write(alloc, CLIENT, Mode::Octet, agreed, 5, sent)
-}
-
-/// The same with a sink.
-pub(crate) fn storer(
-    rt: &impl Abort,
-    alloc: Global,
-    agreed: &Agreed,
-    at_commit: AtCommit,
-) -> OpenEnd<MemSource> {
-    let mut sent = Vec::new(alloc);
-    let opened = serve_write(alloc, agreed, &mut sent);
-    let (end, step) = opened.expect(rt, "it serves a write");
-    OpenEnd {
-        end,
-        files: Files::Sink(at_commit.sink(alloc)),
-        step,
-        sent,
+) -> Result<OpenEnd, OpenFault> {
+    let mut files: Files<FaultSource, MemSink> = Files::Source(source);
+    match End::serve_read(alloc, &mut files, CLIENT, mode, agreed, length, 5, sent) {
+        Ok((end, first)) => Ok(OpenEnd { end, files, first }),
+        Err(fault) => Err(fault),
     }
 }
 
-impl<S: Source + Drop> OpenEnd<S> {
+/// A server's end that receives.
+fn serve_write(
+    alloc: Global,
+    agreed: &Agreed,
+    refuses_commit: bool,
+    sent: &mut Vec<u8>,
+) -> Result<OpenEnd, OpenFault> {
+    match End::serve_write(alloc, CLIENT, Mode::Octet, agreed, 5, sent) {
+        Ok((end, first)) => Ok(OpenEnd {
+            end,
+            files: Files::Sink(MemSink::new(alloc, ROOM, refuses_commit)),
+            first,
+        }),
+        Err(fault) => Err(fault),
+    }
+}
+
+/// A source of these bytes of the file.
+pub(crate) fn source_of(
+    rt: &impl Abort,
+    alloc: Global,
+    file: &[u8],
+    mode: Mode,
+    gives: Gives,
+) -> FaultSource {
+    FaultSource::new(alloc, file, mode, gives.bytes, gives.then_fails).expect(rt, "memory")
+}
+
+/// Opens the end, with a source that gives this of the file. Its first datagram is appended to
+/// `sent`.
+pub(crate) fn open(
+    rt: &impl Abort,
+    alloc: Global,
+    opening: &Opening,
+    gives: Gives,
+    sent: &mut Vec<u8>,
+) -> Result<OpenEnd, OpenFault> {
+    match *opening {
+        Opening::Get(name, mode, asked, config) => get(alloc, name, mode, &asked, &config, sent),
+        Opening::Put(length, file, asked, config) => {
+            let source = source_of(rt, alloc, file, Mode::Octet, gives);
+            put(alloc, &asked, &config, length, source, sent)
+        }
+        Opening::ServeRead(request, mode, length, file) => {
+            let source = source_of(rt, alloc, file, mode, gives);
+            let agreed = agreed_of(rt, request, length);
+            serve_read(alloc, mode, &agreed, length, source, sent)
+        }
+        Opening::ServeWrite(request, refuses_commit) => {
+            let agreed = agreed_of(rt, request, 0);
+            serve_write(alloc, &agreed, refuses_commit, sent)
+        }
+    }
+}
+
+/// An event had the expected result: the end sent the answer to `to`, or nothing if the answer is
+/// empty. `event` names the event.
+fn is_done(
+    rt: &impl Abort,
+    event: (&str, &[u8]),
+    found: (&[u8], Result<Step, EndFault>),
+    answer: &[u8],
+    to: Endpoint,
+    then: Then,
+) {
+    let to = if answer.is_empty() { None } else { Some(to) };
+    let step = match then {
+        Ok((progress, closed)) => Ok(Step {
+            to,
+            progress,
+            closed,
+        }),
+        Err(fault) => Err(fault),
+    };
+    expect_equal(rt, &(event, found), &(event, (answer, step)), "an event");
+}
+
+impl OpenEnd {
     /// Drops the end. The drop is proved here once instead of in each test.
     pub(crate) fn finish(self) {}
 
@@ -307,144 +361,147 @@ impl<S: Source + Drop> OpenEnd<S> {
         &self.end
     }
 
-    pub(crate) fn record(&self) -> Record {
-        self.end.record()
-    }
-
-    pub(crate) fn step(&self) -> Step {
-        self.step
-    }
-
-    /// The datagram of the last step.
-    pub(crate) fn sent(&self) -> &[u8] {
-        self.sent.as_slice()
-    }
-
-    /// The last step has sent these bytes to this endpoint.
-    pub(crate) fn has_sent(&self, rt: &impl Abort, bytes: &[u8], to: Option<Endpoint>) {
-        let found = (self.sent.as_slice(), self.step.to);
-        expect_equal(rt, &found, &(bytes, to), "what is sent, and where it goes");
-    }
-
-    /// Delivers a datagram.
-    pub(crate) fn takes(&mut self, rt: &impl Abort, from: Endpoint, bytes: &[u8]) {
-        self.sent.clear();
-        self.step = self
-            .end
-            .on_datagram(&mut self.files, from, bytes, &mut self.sent)
-            .expect(rt, "the end takes it");
-    }
-
-    /// Delivers a datagram: the end answers by these bytes, or not at all if they are empty.
-    pub(crate) fn answers(&mut self, rt: &impl Abort, from: Endpoint, bytes: &[u8], answer: &[u8]) {
-        self.takes(rt, from, bytes);
-        let to = if answer.is_empty() { None } else { Some(from) };
-        let found = (bytes, self.sent.as_slice(), self.step.to);
-        expect_equal(
-            rt,
-            &found,
-            &(bytes, answer, to),
-            "the answer, and where it goes",
-        );
-    }
-
-    /// Delivers a datagram: the end answers as above, and closes with this outcome.
-    pub(crate) fn closes(
+    /// Delivers a datagram. The answer is in `sent` alone.
+    pub(crate) fn takes(
         &mut self,
-        rt: &impl Abort,
         from: Endpoint,
         bytes: &[u8],
-        answer: &[u8],
-        outcome: Outcome,
-    ) {
-        self.answers(rt, from, bytes, answer);
-        expect_equal(rt, &self.step.closed, &Some(outcome), "how it closes");
+        sent: &mut Vec<u8>,
+    ) -> Result<Step, EndFault> {
+        sent.clear();
+        self.end.on_datagram(&mut self.files, from, bytes, sent)
     }
 
-    /// Delivers a timeout: the end sends these bytes to this endpoint, and closes with this outcome
-    /// or stays open.
-    pub(crate) fn times_out(
-        &mut self,
+    /// As [`is_done`], of a call that lends the answer.
+    fn has_lent(
+        &self,
         rt: &impl Abort,
-        bytes: &[u8],
-        to: Option<Endpoint>,
-        closed: Option<Outcome>,
+        event: (&str, &[u8]),
+        found: Result<(Step, Outgoing), EndFault>,
+        answer: &[u8],
+        to: Endpoint,
+        then: Then,
     ) {
-        self.sent.clear();
-        self.step = self
-            .end
-            .on_timeout(&mut self.sent)
-            .expect(rt, "the end takes a timeout");
-        let found = (self.sent.as_slice(), self.step.to, self.step.closed);
-        expect_equal(rt, &found, &(bytes, to, closed), "what a timeout does");
+        let found = match found {
+            Ok((step, outgoing)) => (self.end.bytes_of(outgoing), Ok(step)),
+            Err(fault) => (b"".as_slice(), Err(fault)),
+        };
+        is_done(rt, event, found, answer, to, then);
     }
 
-    /// The end is closed: it refuses a late datagram and a late timeout, and sends nothing.
-    pub(crate) fn takes_nothing(&mut self, rt: &impl Abort, from: Endpoint, bytes: &[u8]) {
-        self.sent.clear();
-        let late = self
-            .end
-            .on_datagram(&mut self.files, from, bytes, &mut self.sent)
-            .err();
-        let timeout = self.end.on_timeout(&mut self.sent).err();
-        let found = (late, timeout, self.sent.is_empty());
-        let closed = Some(EndFault::Closed);
-        expect_equal(rt, &found, &(closed, closed, true), "it is closed");
+    /// Sets the sink to refuse its next call.
+    fn set_sink(&mut self) {
+        if let Files::Sink(sink) = &mut self.files {
+            sink.refuse_next(true);
+        }
     }
 
-    /// Delivers a datagram: the end lends these bytes for its sender.
-    pub(crate) fn lends(&mut self, rt: &impl Abort, from: Endpoint, bytes: &[u8], answer: &[u8]) {
-        let (step, outgoing) = self
-            .end
-            .handle_datagram(&mut self.files, from, bytes)
-            .expect(rt, "the end takes it");
-        let found = (self.end.bytes_of(outgoing), step.to);
-        expect_equal(
-            rt,
-            &found,
-            &(answer, Some(from)),
-            "the answer, and where it goes",
-        );
-    }
-
-    /// Delivers a timeout, and returns how the end closed and the datagram to send.
-    pub(crate) fn handle_timeout(&mut self) -> Result<(Option<Outcome>, Outgoing), EndFault> {
-        let (step, outgoing) = self.end.handle_timeout()?;
-        Ok((step.closed, outgoing))
-    }
-
-    /// The sink holds these bytes, and committed them.
-    pub(crate) fn has_committed(&self, rt: &impl Abort, bytes: &[u8]) {
-        self.has_stored(rt, (bytes, true));
-    }
-
-    /// The sink holds these bytes, and has not committed them.
-    pub(crate) fn has_drafted(&self, rt: &impl Abort, bytes: &[u8]) {
-        self.has_stored(rt, (bytes, false));
-    }
-
-    fn has_stored(&self, rt: &impl Abort, expected: (&[u8], bool)) {
+    /// The sink holds these bytes, and has committed them or not.
+    pub(crate) fn holds(&self, rt: &impl Abort, bytes: &[u8], is_committed: bool, scene: &str) {
         let Files::Sink(sink) = &self.files else {
             panic!(rt; "a sink");
         };
         let found = (sink.as_bytes(), sink.is_committed());
-        expect_equal(
-            rt,
-            &found,
-            &expected,
-            "what is stored, and whether for good",
-        );
+        expect_equal(rt, &found, &(bytes, is_committed), scene);
+    }
+
+    /// Plays one event of a scene.
+    pub(crate) fn plays(
+        &mut self,
+        rt: &impl Abort,
+        scene: &str,
+        event: &Event,
+        sent: &mut Vec<u8>,
+    ) {
+        match *event {
+            Event::Arrives(from, bytes, answer, then) => {
+                let step = self.takes(from, bytes, sent);
+                is_done(
+                    rt,
+                    (scene, bytes),
+                    (sent.as_slice(), step),
+                    answer,
+                    from,
+                    then,
+                );
+            }
+            Event::TimesOut(answer, to, then) => {
+                sent.clear();
+                let step = self.end.on_timeout(sent);
+                is_done(
+                    rt,
+                    (scene, b"timeout"),
+                    (sent.as_slice(), step),
+                    answer,
+                    to,
+                    then,
+                );
+            }
+            Event::Lends(from, bytes, answer, then) => {
+                let found = self.end.handle_datagram(&mut self.files, from, bytes);
+                self.has_lent(rt, (scene, bytes), found, answer, from, then);
+            }
+            Event::LendsAfterTimeout(answer, to, then) => {
+                let found = self.end.handle_timeout();
+                self.has_lent(rt, (scene, b"timeout"), found, answer, to, then);
+            }
+            Event::Lent(outgoing, bytes) => {
+                expect_equal(rt, &self.end.bytes_of(outgoing), &bytes, scene);
+            }
+            Event::SinkIsSet => self.set_sink(),
+            Event::Waits(backoff, seconds) => {
+                let found = backoff.wait(self.end.interval(), self.end.timeouts());
+                expect_equal(rt, &found, &seconds, scene);
+            }
+            Event::Keeps(held) => expect_equal(rt, &self.end.held(), &held, scene),
+            Event::Reports(record) => expect_equal(rt, &self.end.record(), &record, scene),
+            Event::Holds(bytes, is_committed) => self.holds(rt, bytes, is_committed, scene),
+        }
+    }
+}
+
+/// Plays the scene, and returns its end.
+pub(crate) fn play(rt: &impl Abort, alloc: Global, scene: &Scene, sent: &mut Vec<u8>) -> OpenEnd {
+    let mut end = open(rt, alloc, &scene.opening, WHOLE, sent).expect(rt, scene.name);
+    let (first, to) = scene.sends;
+    let found = (sent.as_slice(), Ok(end.first));
+    is_done(rt, (scene.name, b"opening"), found, first, to, STAYS);
+    for event in scene.events {
+        end.plays(rt, scene.name, event, sent);
+    }
+    end
+}
+
+/// Plays each scene.
+pub(crate) fn play_each(rt: &impl Abort, alloc: Global, scenes: &[Scene]) {
+    for scene in scenes {
+        play(rt, alloc, scene, &mut Vec::new(alloc)).finish();
+    }
+}
+
+/// Openings that are refused with this fault, each with its name. Nothing is sent.
+pub(crate) fn refuses_each(rt: &impl Abort, alloc: Global, refused: &[(&str, Opening, OpenFault)]) {
+    for &(name, opening, fault) in refused {
+        let mut sent = Vec::new(alloc);
+        let found = open(rt, alloc, &opening, WHOLE, &mut sent).err();
+        expect_equal(rt, &(found, sent.is_empty()), &(Some(fault), true), name);
     }
 }
 
 /// Delivers the server's datagram to the client, and the answer to the server. Returns how many
-/// datagrams that adds.
-pub(crate) fn round<S: Source + Drop>(
+/// datagrams that adds. `asks` and `answers` are the last datagrams of the client and the server.
+pub(crate) fn round(
     rt: &impl Abort,
-    client: &mut OpenEnd<MemSource>,
-    server: &mut OpenEnd<S>,
+    client: &mut OpenEnd,
+    server: &mut OpenEnd,
+    asks: &mut Vec<u8>,
+    answers: &mut Vec<u8>,
 ) -> u32 {
-    client.takes(rt, SERVER_END, server.sent());
-    server.takes(rt, CLIENT, client.sent());
-    if server.sent().is_empty() { 1 } else { 2 }
+    client
+        .takes(SERVER_END, answers, asks)
+        .expect(rt, "the client takes it");
+    server
+        .takes(CLIENT, asks, answers)
+        .expect(rt, "the server takes it");
+    if answers.is_empty() { 1 } else { 2 }
 }

@@ -2,7 +2,6 @@
 
 use crate::calls::{AtEnd, appends, commits, fails, gives_each};
 use crate::expect::{expect, expect_bytes, expect_equal};
-use crate::netascii_end_rows::{a_receiver_keeps_an_ack_and_a_cr, a_sender_keeps_its_block};
 use std::alloc::Global;
 use std::io;
 use std::io::{Read, Write};
@@ -181,14 +180,12 @@ fn holds_what_has_room(rt: &impl Abort, alloc: Global, when_full: AtEnd) {
     expect_bytes(rt, written, b"AB", "what it took");
 }
 
-/// A source, a sink whose writer fails or writes nothing once it is full, and what an end keeps.
+/// A source, a sink whose writer fails or writes nothing once it is full.
 #[test]
 fn stream_rows(rt: HostRuntime) {
     gives_line_ends(&rt, rt.alloc());
     holds_what_has_room(&rt, rt.alloc(), AtEnd::Fails);
     holds_what_has_room(&rt, rt.alloc(), AtEnd::Stops);
-    a_receiver_keeps_an_ack_and_a_cr(&rt, rt.alloc());
-    a_sender_keeps_its_block(&rt, rt.alloc());
 }
 
 /// A writer with capacity for nine bytes, whose first flush fails.
