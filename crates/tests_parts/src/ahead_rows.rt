@@ -1,68 +1,75 @@
 //! A source that is read ahead: it gives the bytes of the source below it, in fills of any size.
 
-use crate::calls::{AtEnd, fails, gives_each};
-use crate::expect::expect_equal;
+use crate::calls::{Fill, fills};
 use std::alloc::Global;
 use std::process::Abort;
-use tftp_file::{Ahead, FaultSource, FileFault, MemSource, Source};
+use tftp_file::{Ahead, FaultSource, FileFault, Source};
 use tftp_wire::Mode;
 
-/// A source of the first `give` of the letters `A` to `H`, which then ends or fails.
-fn letters(rt: &impl Abort, alloc: Global, give: u64, then: AtEnd) -> Ahead<FaultSource> {
-    let source = FaultSource::new(alloc, b"ABCDEFGH", Mode::Octet, give, then.fails());
-    Ahead::new(alloc, source.expect(rt, "memory"))
-}
+/// Fills, and how often the source is then read ahead.
+type Turn = (&'static [Fill], u32);
 
-/// After a block is read ahead, a fill requests less, more, as much, and more than is left.
-#[test]
-fn any_fill_goes_on_from_the_one_before(rt: HostRuntime) {
-    let mut source = letters(&rt, rt.alloc(), 8, AtEnd::Stops);
-    gives_each(&rt, rt.alloc(), &mut source, 2, &[b"AB"]);
-    source.read_ahead();
-    source.read_ahead();
-    gives_each(&rt, rt.alloc(), &mut source, 1, &[b"C"]);
-    gives_each(&rt, rt.alloc(), &mut source, 3, &[b"DEF"]);
-    source.read_ahead();
-    gives_each(&rt, rt.alloc(), &mut source, 3, &[b"GH", b""]);
+/// A file, how many bytes of it are given and whether the source then fails, and turns.
+type Scene = (&'static [u8], u64, bool, &'static [Turn]);
+
+static SCENES: [Scene; 3] = [
+    // after a block is read ahead, a fill requests less, more, as much, and more than is left
+    (
+        b"ABCDEFGH",
+        8,
+        false,
+        &[
+            (&[(2, Ok(b"AB"))], 2),
+            (&[(1, Ok(b"C")), (3, Ok(b"DEF"))], 1),
+            (&[(3, Ok(b"GH")), (3, Ok(b""))], 0),
+        ],
+    ),
+    // bytes that were read ahead before a source fails are given first, and after a failed read
+    // ahead each fill fails: one byte is left at the first
+    (
+        b"ABCDEFGH",
+        5,
+        true,
+        &[
+            (&[(2, Ok(b"AB"))], 1),
+            (&[(2, Ok(b"CD"))], 1),
+            (&[(2, Err(FileFault::Read)), (1, Err(FileFault::Read))], 0),
+        ],
+    ),
+    (
+        b"ABCDEFGHI",
+        9,
+        false,
+        &[
+            (&[(3, Ok(b"ABC"))], 1),
+            (&[(3, Ok(b"DEF"))], 1),
+            (&[(3, Ok(b"GHI"))], 1),
+        ],
+    ),
+];
+
+/// The source has the results of its fills, in each turn.
+fn plays(rt: &impl Abort, alloc: Global, (file, give, fails, turns): Scene) {
+    let source = FaultSource::new(alloc, file, Mode::Octet, give, fails);
+    let mut source = Ahead::new(alloc, source.expect(rt, "memory"));
+    for &(pieces, times) in turns {
+        fills(
+            rt,
+            alloc,
+            &mut source,
+            pieces,
+            "a source that is read ahead",
+        );
+        for _ in 0..times {
+            source.read_ahead();
+        }
+    }
     drop(source);
 }
 
-/// Bytes that were read ahead before a source fails are given first. After a failed read ahead each
-/// fill fails.
 #[test]
-fn a_read_ahead_that_fails_is_reported(rt: HostRuntime) {
-    let mut source = letters(&rt, rt.alloc(), 5, AtEnd::Fails);
-    gives_each(&rt, rt.alloc(), &mut source, 2, &[b"AB"]);
-    source.read_ahead();
-    gives_each(&rt, rt.alloc(), &mut source, 2, &[b"CD"]);
-    source.read_ahead();
-    let fault = FileFault::Read;
-    fails(&rt, rt.alloc(), &mut source, 2, fault, "one byte is left");
-    fails(&rt, rt.alloc(), &mut source, 1, fault, "it has failed");
-    drop(source);
-}
-
-/// The next fill appends a block to the header of a datagram, with this result.
-fn gives_after_header(
-    rt: &impl Abort,
-    source: &mut Ahead<MemSource>,
-    out: &mut Vec<u8>,
-    expected: &[u8],
-) {
-    out.truncate(4);
-    let filled = source.fill(3, out);
-    expect_equal(rt, &(filled, out.as_slice()), &(Ok(3), expected), "a block");
-    source.read_ahead();
-}
-
-/// A block is appended to the header of a datagram, of four bytes (RFC 1350, section 5).
-#[test]
-fn a_block_is_appended_to_a_header(rt: HostRuntime) {
-    let source = MemSource::new(rt.alloc(), b"ABCDEFGHI", Mode::Octet);
-    let mut source = Ahead::new(rt.alloc(), source.expect(&rt, "memory"));
-    let mut out = Vec::from_slice(rt.alloc(), b"\x00\x03\x00\x01").expect(&rt, "memory");
-    gives_after_header(&rt, &mut source, &mut out, b"\x00\x03\x00\x01ABC");
-    gives_after_header(&rt, &mut source, &mut out, b"\x00\x03\x00\x01DEF");
-    gives_after_header(&rt, &mut source, &mut out, b"\x00\x03\x00\x01GHI");
-    drop(source);
+fn sources_are_read_ahead(rt: HostRuntime) {
+    for &scene in &SCENES {
+        plays(&rt, rt.alloc(), scene);
+    }
 }

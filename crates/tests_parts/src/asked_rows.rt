@@ -2,12 +2,13 @@
 //! "Timeout Interval Option Specification" and "Transfer Size Option Specification").
 
 use crate::expect::{expect, expect_equal};
-use crate::option_rows::{NETASCII, NOTHING, OCTET, READ, WRITE};
+use crate::open_end::NOTHING;
+use crate::option_rows::{NETASCII, OCTET, READ, WRITE};
 use tftp_negotiate::{Asked, Kind, is_block_size, is_timeout};
 use tftp_wire::Mode;
 
 /// Block sizes, and whether each may be requested (RFC 2348, "Blocksize Option Specification").
-const SIZES: [(u16, bool); 6] = [
+static SIZES: [(u16, bool); 6] = [
     (7, false),
     (8, true),
     (65_464, true),
@@ -16,29 +17,19 @@ const SIZES: [(u16, bool); 6] = [
     (65_535, false),
 ];
 
-/// Whether the block size may be requested, in a read and at all, and whether it is valid.
-fn may_be_asked(size: u16) -> (bool, bool, bool) {
-    let asked = Asked {
-        blksize: Some(size),
-        timeout: None,
-        tsize: None,
-    };
-    let is_for_read = asked.is_for(READ, OCTET, 0);
-    (
-        is_for_read,
-        asked.is_askable(),
-        is_block_size(u64::from(size)),
-    )
-}
-
 #[test]
 fn asked_sizes(rt: HostRuntime) {
     for &(size, expected) in &SIZES {
-        let found = (size, may_be_asked(size));
+        let asked = Asked {
+            blksize: Some(size),
+            ..NOTHING
+        };
+        let (in_read, at_all) = (asked.is_for(READ, OCTET, 0), asked.is_askable());
+        let found = (size, in_read, at_all, is_block_size(u64::from(size)));
         expect_equal(
             &rt,
             &found,
-            &(size, (expected, expected, expected)),
+            &(size, expected, expected, expected),
             "blksize",
         );
     }
@@ -46,15 +37,14 @@ fn asked_sizes(rt: HostRuntime) {
 
 /// Timeouts in seconds, and whether each may be requested (RFC 2349, "Timeout Interval Option
 /// Specification").
-const SECONDS: [(u8, bool); 3] = [(0, false), (1, true), (255, true)];
+static SECONDS: [(u8, bool); 3] = [(0, false), (1, true), (255, true)];
 
 #[test]
 fn asked_seconds(rt: HostRuntime) {
     for &(seconds, expected) in &SECONDS {
         let asked = Asked {
-            blksize: None,
             timeout: Some(seconds),
-            tsize: None,
+            ..NOTHING
         };
         let is_for_write = asked.is_for(WRITE, NETASCII, 9);
         let found = (seconds, is_for_write, is_timeout(u64::from(seconds)));
@@ -64,7 +54,7 @@ fn asked_seconds(rt: HostRuntime) {
 
 /// Lengths, and whether each may be requested for a file of 9 bytes (RFC 2349, "Transfer Size
 /// Option Specification").
-const ASKED_LENGTHS: [(Kind, Mode, u64, bool); 6] = [
+static ASKED_LENGTHS: [(Kind, Mode, u64, bool); 6] = [
     (READ, OCTET, 0, true),
     (READ, OCTET, 9, false),
     (WRITE, OCTET, 9, true),
@@ -77,23 +67,13 @@ const ASKED_LENGTHS: [(Kind, Mode, u64, bool); 6] = [
 fn asked_lengths(rt: HostRuntime) {
     for &(kind, mode, tsize, expected) in &ASKED_LENGTHS {
         let asked = Asked {
-            blksize: None,
-            timeout: None,
             tsize: Some(tsize),
+            ..NOTHING
         };
         let may_ask = (kind, mode, tsize, asked.is_for(kind, mode, 9));
         expect_equal(&rt, &may_ask, &(kind, mode, tsize, expected), "tsize");
     }
-}
-
-#[test]
-fn nothing_is_asked(rt: HostRuntime) {
-    let rt = &rt;
-    expect(
-        rt,
-        Asked::default().is_for(READ, OCTET, 9),
-        "nothing may be asked",
-    );
-    expect_equal(rt, &Asked::default(), &NOTHING, "the default");
-    expect_equal(rt, &NOTHING.tsize_in(OCTET), &None, "no length");
+    expect(&rt, NOTHING.is_for(READ, OCTET, 9), "nothing may be asked");
+    expect_equal(&rt, &Asked::default(), &NOTHING, "the default");
+    expect_equal(&rt, &NOTHING.tsize_in(OCTET), &None, "no length");
 }

@@ -24,7 +24,7 @@ const THREE: Asked = Asked {
 /// A client with five retries that requests a timeout of three seconds.
 const GET: Opening = Opening::Get(b"a", Mode::Octet, THREE, CONFIG);
 
-const SCENES: [Scene; 3] = [
+static SCENES: [Scene; 3] = [
     // Twice as long after each timeout, up to eight times.
     Scene {
         name: "waits double",

@@ -8,7 +8,7 @@ use std::process::Abort;
 use tftp_file::{NetDecoder, NetEncoder};
 
 /// The bytes that netascii treats specially, and a letter.
-const BYTES: [u8; 4] = [b'\r', b'\n', b'\0', b'A'];
+static BYTES: [u8; 4] = [b'\r', b'\n', b'\0', b'A'];
 
 /// A random text of 64 such bytes.
 fn drawn(rt: &impl Abort, alloc: Global, rng: &mut Pcg32) -> Vec<u8> {

@@ -36,7 +36,7 @@ const SENT: Record = Record {
     outcome: Some(Outcome::Complete),
 };
 
-const SCENES: [Scene; 6] = [
+static SCENES: [Scene; 6] = [
     Scene {
         name: "a request has no peer before the first answer",
         opening: Opening::Get(b"boot.img", Mode::Octet, NOTHING, CONFIG),
@@ -110,7 +110,7 @@ const SCENES: [Scene; 6] = [
 ];
 
 /// Names that are refused: empty, with a zero byte, and too long for 512 bytes.
-const WRONG_NAMES: [(&str, Opening, OpenFault); 3] = [
+static WRONG_NAMES: [(&str, Opening, OpenFault); 3] = [
     (
         "an empty name",
         Opening::Get(b"", Mode::Octet, NOTHING, CONFIG),
@@ -135,7 +135,7 @@ fn end_scenes(rt: HostRuntime) {
 }
 
 /// The codes of RFC 1350, appendix I, and code 8 of RFC 2347, "Negotiation Protocol".
-const ERRORS: [(ErrorReply, u16, &str); 11] = [
+static ERRORS: [(ErrorReply, u16, &str); 11] = [
     (ErrorReply::FileTooLarge, 0, "file too large"),
     (ErrorReply::ServerBusy, 0, "server busy"),
     (ErrorReply::FileChanged, 0, "file changed"),
@@ -158,7 +158,7 @@ fn error_codes(rt: HostRuntime) {
 }
 
 /// Outcomes, their numbers and their words.
-const OUTCOMES: [(Outcome, u8, &str); 9] = [
+static OUTCOMES: [(Outcome, u8, &str); 9] = [
     (Outcome::Complete, 1, "Complete"),
     (Outcome::TimedOut, 2, "TimedOut"),
     (Outcome::PeerError(5), 3, "PeerError(5)"),
@@ -193,7 +193,7 @@ fn faults_are_numbered(rt: HostRuntime) {
 }
 
 /// Sides, and whether each sends DATA, and whether it is a client's.
-const SIDES: [(Side, bool, bool); 4] = [
+static SIDES: [(Side, bool, bool); 4] = [
     (Side::ClientRead, false, true),
     (Side::ClientWrite, true, true),
     (Side::ServerRead, true, false),

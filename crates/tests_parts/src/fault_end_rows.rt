@@ -4,7 +4,6 @@
 ghost use Rattle.std.specs.Prelude.{◌<◌};
 
 use crate::expect::expect_equal;
-use crate::open_end::Event::{Arrives, SinkIsSet};
 use crate::open_end::{
     ACK_0, ACK_1, ACK_2, CLIENT, CONFIG, DISK_FULL, EIGHT, Gives, OACK_8, Opening, PROGRESS, RRQ_8,
     SERVER_END, STORE_FAULT, WHOLE, open,
@@ -25,7 +24,7 @@ const FILE: &[u8] = b"aaaaaaaabbbbbbbbccccccccddddddddeeee";
 const TWENTY: &[u8] = b"aaaaaaaabbbbbbbbcccc";
 
 /// The datagrams that request its blocks from a server's end, and the blocks.
-const SERVED: [(&[u8], &[u8]); 5] = [
+const SERVED: &[(&[u8], &[u8]); 5] = &[
     (ACK_0, b"\x00\x03\x00\x01aaaaaaaa"),
     (ACK_1, b"\x00\x03\x00\x02bbbbbbbb"),
     (ACK_2, b"\x00\x03\x00\x03cccccccc"),
@@ -37,7 +36,7 @@ const SERVED: [(&[u8], &[u8]); 5] = [
 const LETTERS: &[u8] = b"ABCDEFGHIJKLMNOPQRSTUVWXYZabcdefghij";
 
 /// The datagrams that request their blocks from a client, and the blocks.
-const WRITTEN: [(&[u8], &[u8]); 5] = [
+const WRITTEN: &[(&[u8], &[u8]); 5] = &[
     (OACK_8, b"\x00\x03\x00\x01ABCDEFGH"),
     (ACK_1, b"\x00\x03\x00\x02IJKLMNOP"),
     (ACK_2, b"\x00\x03\x00\x03QRSTUVWX"),
@@ -46,10 +45,14 @@ const WRITTEN: [(&[u8], &[u8]); 5] = [
 ];
 
 /// A sender, its peer, and the requests of its blocks.
-type Sender = (Opening, Endpoint, [(&'static [u8], &'static [u8]); 5]);
+type Sender = (
+    Opening,
+    Endpoint,
+    &'static [(&'static [u8], &'static [u8]); 5],
+);
 
 /// A server's end, and a client that writes.
-const SENDERS: [Sender; 2] = [
+static SENDERS: [Sender; 2] = [
     (
         Opening::ServeRead(RRQ_8, Mode::Octet, 36, FILE),
         CLIENT,
@@ -62,7 +65,7 @@ const SENDERS: [Sender; 2] = [
     ),
 ];
 
-const OF_TWENTY: Sender = (
+static OF_TWENTY: Sender = (
     Opening::ServeRead(RRQ_8, Mode::Octet, 20, TWENTY),
     CLIENT,
     SERVED,
@@ -79,21 +82,27 @@ fn breaks_off(rt: &impl Abort, alloc: Global, sender: &Sender, sent: usize, give
     let mut out = Vec::new(alloc);
     let mut end = open(rt, alloc, opening, gives, &mut out).expect(rt, "a sender");
     for &(asks, block) in &turns[..sent] {
-        let event = Arrives(*from, asks, block, PROGRESS);
-        end.plays(rt, "before the fault", &event, &mut out);
+        end.answers(rt, ("no fault", asks), &mut out, *from, block, PROGRESS);
     }
     // the first answer to a client makes its peer known
     let is_progress = sent == 0 && *from == SERVER_END;
     let then = Ok((is_progress, Some(Outcome::SourceFault)));
-    let event = Arrives(*from, turns[sent].0, FILE_CHANGED, then);
-    end.plays(rt, "a source fault", &event, &mut out);
+    let asks = turns[sent].0;
+    end.answers(
+        rt,
+        ("a source fault", asks),
+        &mut out,
+        *from,
+        FILE_CHANGED,
+        then,
+    );
     let number = usize::from(end.as_end().record().number);
     expect_equal(rt, &number, &sent, "the blocks sent");
     end.finish();
 }
 
 /// Bytes of the block at which a source ends or fails, and whether it fails.
-const CUTS: [(u64, bool); 4] = [(0, false), (0, true), (3, false), (3, true)];
+static CUTS: [(u64, bool); 4] = [(0, false), (0, true), (3, false), (3, true)];
 
 fn breaks_off_at_each_block(rt: &impl Abort, alloc: Global, sender: &Sender) {
     for sent in 0..5 {
@@ -119,19 +128,34 @@ fn a_source_breaks_off(rt: HostRuntime) {
 /// A server's end that receives blocks of eight bytes.
 const RECEIVER: Opening = Opening::ServeWrite(RRQ_8, false);
 
+/// The blocks of the file, and their ACKs.
+static STORED: [(&[u8], &[u8]); 5] = [
+    (b"\x00\x03\x00\x01aaaaaaaa", ACK_1),
+    (b"\x00\x03\x00\x02bbbbbbbb", ACK_2),
+    (b"\x00\x03\x00\x03cccccccc", ACK_3),
+    (b"\x00\x03\x00\x04dddddddd", ACK_4),
+    (b"\x00\x03\x00\x05eeee", b"\x00\x04\x00\x05"),
+];
+
 /// `stored` blocks are stored, and then the sink refuses the call for the next one.
-fn is_full(rt: &impl Abort, alloc: Global, stored: usize, next: &'static [u8])
+fn is_full(rt: &impl Abort, alloc: Global, stored: usize, next: &[u8])
     requires { stored < 5 }
 {
     let mut out = Vec::new(alloc);
     let mut end = open(rt, alloc, &RECEIVER, WHOLE, &mut out).expect(rt, "a receiver");
     for at in 0..stored {
-        let event = Arrives(CLIENT, SERVED[at].1, SERVED[at + 1].0, PROGRESS);
-        end.plays(rt, "before the fault", &event, &mut out);
+        let (data, ack) = STORED[at];
+        end.answers(rt, ("no fault", data), &mut out, CLIENT, ack, PROGRESS);
     }
-    end.plays(rt, "the sink is set", &SinkIsSet, &mut out);
-    let event = Arrives(CLIENT, next, DISK_FULL, STORE_FAULT);
-    end.plays(rt, "the sink refuses", &event, &mut out);
+    end.set_sink();
+    end.answers(
+        rt,
+        ("a full sink", next),
+        &mut out,
+        CLIENT,
+        DISK_FULL,
+        STORE_FAULT,
+    );
     let number = usize::from(end.as_end().record().number);
     expect_equal(rt, &number, &stored, "the blocks stored");
     end.holds(rt, &FILE[..8 * stored], false, "what is stored");
@@ -143,7 +167,7 @@ fn is_full(rt: &impl Abort, alloc: Global, stored: usize, next: &'static [u8])
 #[test]
 fn a_write_is_refused_at_each_block(rt: HostRuntime) {
     for stored in 0..5 {
-        is_full(&rt, rt.alloc(), stored, SERVED[stored].1);
+        is_full(&rt, rt.alloc(), stored, STORED[stored].0);
     }
     is_full(&rt, rt.alloc(), 2, b"\x00\x03\x00\x03");
     is_full(&rt, rt.alloc(), 4, b"\x00\x03\x00\x05");

@@ -30,7 +30,7 @@ const UNKNOWN_ID: &[u8] = b"\x00\x05\x00\x05unknown transfer id\x00";
 /// A client that requests the file `a`, and has no retry.
 const GET_A: Opening = Opening::Get(b"a", Mode::Octet, NOTHING, NO_RETRY);
 
-const SCENES: [Scene; 4] = [
+static SCENES: [Scene; 4] = [
     Scene {
         name: "the last datagram sent is the request",
         opening: GET_A,
@@ -106,7 +106,7 @@ fn errors_are_appended(rt: HostRuntime) {
 }
 
 /// Datagrams, and whether each spells a packet.
-const DATAGRAMS: [(&[u8], bool); 4] = [
+static DATAGRAMS: [(&[u8], bool); 4] = [
     (b"\x00\x05", false),
     (b"\x00\x05\x00\x01no\x00", true),
     (b"\x00\x04\x00\x05", true),

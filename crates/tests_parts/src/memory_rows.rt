@@ -1,142 +1,164 @@
 //! The source and the sink in memory, called through their traits.
 
-use crate::calls::{appends, commits, gives_each};
-use crate::expect::{expect, expect_bytes, expect_equal};
+use crate::calls::SinkCall::{Append, Commit};
+use crate::calls::{Fill, SinkCall, calls, fills};
+use crate::expect::{expect_bytes, expect_equal};
 use std::alloc::Global;
 use std::process::Abort;
-use tftp_file::{FileBytes, FileFault, Files, MemSink, MemSource, SharedBytes, StoreFault};
+use tftp_file::{FileBytes, FileFault, Files, MemSink, MemSource, StoreFault};
 use tftp_wire::Mode;
 
-/// A source in memory.
-fn source_of(rt: &impl Abort, alloc: Global, bytes: &[u8], mode: Mode) -> MemSource {
-    MemSource::new(alloc, bytes, mode).expect(rt, "memory")
-}
-
-/// The text in fills of three bytes: a line feed is encoded as CR LF, and a CR as CR NUL (RFC 764).
-const NETASCII: [&[u8]; 3] = [b"\r\0\r", b"\nA", b""];
-
-#[test]
-fn a_pair_may_be_split_between_two_fills(rt: HostRuntime) {
-    let mut source = source_of(&rt, rt.alloc(), b"\r\nA", Mode::Netascii);
-    gives_each(&rt, rt.alloc(), &mut source, 3, &NETASCII);
-    drop(source);
-}
-
-/// The same bytes in octet, in fills of two.
-const OCTET: [&[u8]; 3] = [b"\r\n", b"A", b""];
+/// A text, its mode, and the fills: a line feed is encoded as CR LF, and a CR as CR NUL (RFC 764).
+/// A pair may be split between two fills.
+static SOURCES: [(&[u8], Mode, &[Fill]); 2] = [
+    (
+        b"\r\nA",
+        Mode::Netascii,
+        &[(3, Ok(b"\r\0\r")), (3, Ok(b"\nA")), (3, Ok(b""))],
+    ),
+    (
+        b"\r\nA",
+        Mode::Octet,
+        &[(2, Ok(b"\r\n")), (2, Ok(b"A")), (2, Ok(b""))],
+    ),
+];
 
 #[test]
-fn octet_is_given_as_it_is(rt: HostRuntime) {
-    let mut source = source_of(&rt, rt.alloc(), b"\r\nA", Mode::Octet);
-    gives_each(&rt, rt.alloc(), &mut &mut source, 2, &OCTET);
-    drop(source);
+fn sources_in_memory(rt: HostRuntime) {
+    for &(text, mode, pieces) in &SOURCES {
+        let source = MemSource::new(rt.alloc(), text, mode);
+        let mut source = source.expect(&rt, "memory");
+        fills(&rt, rt.alloc(), &mut &mut source, pieces, mode.word());
+        drop(source);
+    }
 }
 
-/// Appends to the file.
-fn grow(rt: &impl Abort, file: &mut FileBytes, bytes: &[u8]) {
-    file.append(bytes).expect(rt, "memory");
-}
-
-/// Shares the file, which has these bytes.
-fn share(rt: &impl Abort, file: &mut FileBytes, bytes: &[u8]) -> SharedBytes {
-    let shared = file.share().expect(rt, "memory");
-    expect_bytes(rt, shared.as_slice(), bytes, "as it was shared");
-    shared
-}
-
-/// A file that is shared after two appends, and then grows. Returns the shared bytes.
-fn grows_on(rt: &impl Abort, file: &mut FileBytes) -> SharedBytes {
-    grow(rt, file, b"A");
-    grow(rt, file, b"\n");
-    let shared = share(rt, file, b"A\n");
-    grow(rt, file, b"B");
-    expect_bytes(rt, shared.as_slice(), b"A\n", "what was shared stays");
-    expect_bytes(rt, file.as_slice(), b"A\nB", "the file goes on alone");
-    share(rt, file, b"A\nB");
-    shared
-}
-
+/// A file that is shared after two appends, and then grows alone.
 #[test]
 fn a_file_is_shared_and_grows_on(rt: HostRuntime) {
-    let shared = grows_on(&rt, &mut FileBytes::new(rt.alloc()));
+    let (rt, alloc) = (&rt, rt.alloc());
+    let mut file = FileBytes::new(alloc);
+    file.append(b"A").expect(rt, "memory");
+    file.append(b"\n").expect(rt, "memory");
+    let shared = file.share().expect(rt, "memory");
+    file.append(b"B").expect(rt, "memory");
+    expect_bytes(rt, shared.as_slice(), b"A\n", "what was shared stays");
+    expect_bytes(rt, file.as_slice(), b"A\nB", "the file goes on alone");
+    let again = file.share().expect(rt, "memory");
+    expect_bytes(rt, again.as_slice(), b"A\nB", "as it was shared again");
     let mut source = MemSource::of_shared(shared, Mode::Netascii);
-    gives_each(&rt, rt.alloc(), &mut source, 512, &[b"A\r\n"]);
+    let piece = (512, Ok(b"A\r\n".as_slice()));
+    fills(rt, alloc, &mut source, &[piece], "the shared bytes");
     drop(source);
 }
 
-#[test]
-fn a_full_sink_keeps_what_has_room(rt: HostRuntime) {
-    let rt = &rt;
-    let mut sink = MemSink::new(rt.alloc(), 3, false);
-    appends(rt, &mut sink, b"AB", Ok(()), "within the room");
-    let full = Err(StoreFault::Full);
-    appends(rt, &mut sink, b"CDE", full, "past the room");
-    expect_bytes(rt, sink.as_bytes(), b"ABC", "what has room");
-    appends(rt, &mut sink, b"", Ok(()), "no bytes, which have room");
+/// Whether the sink is first set to refuse its next call, the call, its result, and the bytes that
+/// the sink then holds and whether it has committed them.
+type Call = (bool, SinkCall, Result<(), StoreFault>, &'static [u8], bool);
+
+const FULL: Result<(), StoreFault> = Err(StoreFault::Full);
+
+/// What a sink does, its room, whether it refuses each commit, and the calls.
+type Calls = (&'static str, u64, bool, &'static [Call]);
+
+static CALLS: [Calls; 5] = [
+    (
+        "a full sink keeps what has room",
+        3,
+        false,
+        &[
+            (false, Append(b"AB"), Ok(()), b"AB", false),
+            (false, Append(b"CDE"), FULL, b"ABC", false),
+            (false, Append(b""), Ok(()), b"ABC", false),
+        ],
+    ),
+    (
+        "a sink is committed by its commit",
+        3,
+        false,
+        &[
+            (false, Append(b"ABC"), Ok(()), b"ABC", false),
+            (false, Commit, Ok(()), b"ABC", true),
+        ],
+    ),
+    (
+        "an append is refused once",
+        9,
+        false,
+        &[
+            (true, Append(b"A"), FULL, b"", false),
+            (false, Append(b"B"), Ok(()), b"B", false),
+        ],
+    ),
+    (
+        "a commit is refused once",
+        9,
+        false,
+        &[
+            (false, Append(b"A"), Ok(()), b"A", false),
+            (true, Commit, FULL, b"A", false),
+            (false, Commit, Ok(()), b"A", true),
+        ],
+    ),
+    (
+        "each commit is refused",
+        9,
+        true,
+        &[
+            (false, Commit, FULL, b"", false),
+            (false, Commit, FULL, b"", false),
+        ],
+    ),
+];
+
+/// The call has its result, and the sink is then not set to refuse a call.
+fn is_called(
+    rt: &impl Abort,
+    mut sink: &mut MemSink,
+    what: &str,
+    (is_set, call, expected, bytes, is_committed): Call,
+) {
+    sink.refuse_next(is_set);
+    let was_set = sink.refuses();
+    let found = calls(&mut sink, call);
+    let state = (sink.as_bytes(), sink.is_committed(), sink.refuses());
+    let expected = (is_set, expected, (bytes, is_committed, false));
+    expect_equal(rt, &(was_set, found, state), &expected, what);
 }
 
 #[test]
-fn a_sink_is_committed_by_its_commit(rt: HostRuntime) {
-    let rt = &rt;
-    let mut sink = MemSink::new(rt.alloc(), 3, false);
-    appends(rt, &mut sink, b"ABC", Ok(()), "within the room");
-    expect(rt, !sink.is_committed(), "before the commit");
-    commits(rt, &mut &mut sink, Ok(()), "the commit");
-    expect(rt, sink.is_committed(), "after the commit");
-}
-
-#[test]
-fn an_append_is_refused_once_as_armed(rt: HostRuntime) {
-    let rt = &rt;
-    let mut sink = &mut MemSink::new(rt.alloc(), 9, false);
-    sink.refuse_next(true);
-    expect(rt, sink.refuses(), "told");
-    appends(rt, sink, b"A", Err(StoreFault::Full), "the append");
-    expect(rt, !sink.refuses(), "told no more");
-    appends(rt, &mut sink, b"B", Ok(()), "the append after it");
-    expect_bytes(rt, sink.as_bytes(), b"B", "the one that was taken");
-}
-
-#[test]
-fn a_commit_is_refused_once_as_armed(rt: HostRuntime) {
-    let rt = &rt;
-    let mut sink = MemSink::new(rt.alloc(), 9, false);
-    appends(rt, &mut sink, b"A", Ok(()), "the append");
-    sink.refuse_next(true);
-    commits(rt, &mut sink, Err(StoreFault::Full), "the commit");
-    expect(rt, !sink.is_committed(), "after a refused commit");
-    commits(rt, &mut sink, Ok(()), "the commit after it");
-    expect_bytes(rt, sink.as_bytes(), b"A", "the bytes stay");
-}
-
-#[test]
-fn a_commit_is_refused_as_made(rt: HostRuntime) {
-    let rt = &rt;
-    let mut sink = MemSink::new(rt.alloc(), 9, true);
-    commits(rt, &mut sink, Err(StoreFault::Full), "the first time");
-    commits(rt, &mut sink, Err(StoreFault::Full), "the second time");
-    expect(rt, !sink.is_committed(), "never");
+fn sinks_in_memory(rt: HostRuntime) {
+    for &(what, room, refuses_commit, rows) in &CALLS {
+        let mut sink = MemSink::new(rt.alloc(), room, refuses_commit);
+        for &call in rows {
+            is_called(&rt, &mut sink, what, call);
+        }
+    }
 }
 
 /// A source gives the one byte `A`, and a sink with capacity for one byte stores one.
 fn moves_a_byte(rt: &impl Abort, alloc: Global, mut file: Files<MemSource, MemSink>) {
     match &mut file {
-        Files::Source(source) => gives_each(rt, alloc, source, 2, &[b"A"]),
-        Files::Sink(sink) => appends(rt, sink, b"B", Ok(()), "the sink"),
+        Files::Source(source) => {
+            fills(rt, alloc, source, &[(2, Ok(b"A".as_slice()))], "a source");
+        }
+        Files::Sink(sink) => {
+            let stored = calls(sink, Append(b"B"));
+            expect_equal(rt, &stored, &Ok(()), "a sink");
+        }
     }
     drop(file);
 }
 
 #[test]
 fn files_are_of_either_direction(rt: HostRuntime) {
-    let rt = &rt;
-    let source = source_of(rt, rt.alloc(), b"A", Mode::Octet);
-    moves_a_byte(rt, rt.alloc(), Files::Source(source));
-    let sink = MemSink::new(rt.alloc(), 1, false);
-    moves_a_byte(rt, rt.alloc(), Files::Sink(sink));
+    let (rt, alloc) = (&rt, rt.alloc());
+    let source = MemSource::new(alloc, b"A", Mode::Octet).expect(rt, "memory");
+    moves_a_byte(rt, alloc, Files::Source(source));
+    moves_a_byte(rt, alloc, Files::Sink(MemSink::new(alloc, 1, false)));
 }
 
-const STORE_FAULTS: [(StoreFault, u8); 5] = [
+static STORE_FAULTS: [(StoreFault, u8); 5] = [
     (StoreFault::Missing, 1),
     (StoreFault::Exists, 2),
     (StoreFault::Full, 3),
@@ -145,19 +167,11 @@ const STORE_FAULTS: [(StoreFault, u8); 5] = [
 ];
 
 #[test]
-fn store_faults_are_numbered(rt: HostRuntime) {
+fn faults_are_numbered(rt: HostRuntime) {
     for &(fault, number) in &STORE_FAULTS {
-        expect_equal(
-            &rt,
-            &(fault, fault.number()),
-            &(fault, number),
-            "its number",
-        );
+        let found = (fault, fault.number());
+        expect_equal(&rt, &found, &(fault, number), "its number");
     }
-}
-
-#[test]
-fn file_faults_are_numbered(rt: HostRuntime) {
     let numbers = (FileFault::Read.number(), FileFault::Memory.number());
     expect_equal(&rt, &numbers, &(1, 2), "a read that fails, and no memory");
 }

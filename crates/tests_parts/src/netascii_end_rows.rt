@@ -31,7 +31,7 @@ const NEW_PEER: Then = Ok((true, Some(Outcome::NotNetascii)));
 const NOT_NETASCII: Then = Ok((false, Some(Outcome::NotNetascii)));
 
 /// DATA 1 of texts that are not valid netascii. The receiver stores nothing of them, and closes.
-const WRONG: [Scene; 4] = [
+static WRONG: [Scene; 4] = [
     Scene {
         name: "a CR at the end",
         opening: GET_A,
@@ -102,7 +102,7 @@ const CUT: Record = Record {
 };
 
 /// A pair that is cut between two blocks: the byte after the CR decides.
-const CUTS: [Scene; 5] = [
+static CUTS: [Scene; 5] = [
     // The end keeps the CR, which awaits its byte, and one datagram, the ACK.
     Scene {
         name: "a receiver keeps an ACK and a CR",
@@ -185,7 +185,7 @@ const CUTS: [Scene; 5] = [
     },
 ];
 
-const SENDERS: [Scene; 3] = [
+static SENDERS: [Scene; 3] = [
     // A sender keeps its newest DATA, a header and a block, and no text.
     Scene {
         name: "a sender keeps its block",
@@ -237,7 +237,7 @@ type Travel = (&'static [u8], u64, &'static [u8], bool, u32);
 
 /// Wire text of 5 bytes has one block, and of 512 bytes a second, empty one. In that of 513 bytes
 /// the CR of the last pair ends the first block.
-const TRAVELS: [Travel; 3] = [
+static TRAVELS: [Travel; 3] = [
     (b"\r\nA", 5, b"\r\nA", true, 3),
     (&[b'\n'; 256], 512, &[b'\n'; 256], false, 5),
     (LONG_LINE, 513, &[b'A'; 511], false, 5),

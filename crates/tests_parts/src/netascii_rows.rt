@@ -10,7 +10,7 @@ use tftp_file::{
 use tftp_wire::Mode;
 
 /// Host bytes and their wire text, by hand: a line feed is encoded as CR LF, a CR as CR NUL.
-const TEXTS: [(&[u8], &[u8]); 6] = [
+static TEXTS: [(&[u8], &[u8]); 6] = [
     (b"", b""),
     (b"A", b"A"),
     (b"\n", b"\r\n"),
@@ -56,7 +56,7 @@ fn texts_both_ways(rt: HostRuntime) {
 }
 
 /// Pieces of a wire text in turn, the bytes stored after each, and how many bytes are held back.
-const PIECES: [(&[u8], &[u8], usize); 3] = [
+static PIECES: [(&[u8], &[u8], usize); 3] = [
     (b"\r", b"", 1),
     (b"\0\r", b"\r", 1),
     (b"\nA", b"\r\nA", 0),
@@ -85,7 +85,7 @@ fn is_stored_in_pieces(rt: &impl Abort, alloc: Global) {
 }
 
 /// A piece of wire text, a next one that is not valid, and the fault.
-const WRONG: [(&[u8], &[u8], NetFault); 5] = [
+static WRONG: [(&[u8], &[u8], NetFault); 5] = [
     (b"A", b"\n", NetFault::LoneLf),
     (b"A", b"ab\ncd", NetFault::LoneLf),
     (b"A\r", b"A\n", NetFault::LoneCr),
@@ -198,7 +198,7 @@ fn lengths_on_the_wire(rt: HostRuntime) {
 }
 
 /// A text, its mode, the limit, and the length.
-const WITHIN: [(&[u8], Mode, u64, u64); 4] = [
+static WITHIN: [(&[u8], Mode, u64, u64); 4] = [
     (b"\r\nA", Mode::Octet, 9, 3),
     (b"\r\nA", Mode::Octet, 2, 2),
     (b"\r\nA", Mode::Netascii, 9, 5),
@@ -236,7 +236,7 @@ impl Read for Failing {
 
 /// How many reads of 8,192 bytes succeed, and the length. 523,705 reads exceed the longest wire
 /// text, and 523,704 do not.
-const READS: [(u64, Mode, Result<u64, FileFault>); 3] = [
+static READS: [(u64, Mode, Result<u64, FileFault>); 3] = [
     (3, Mode::Netascii, Err(FileFault::Read)),
     (523_704, Mode::Octet, Err(FileFault::Read)),
     (523_705, Mode::Octet, Ok(MAX_WIRE + 1)),

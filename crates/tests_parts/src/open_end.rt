@@ -162,8 +162,6 @@ pub(crate) enum Event {
     LendsAfterTimeout(&'static [u8], Endpoint, Then),
     /// The end lends these bytes.
     Lent(Outgoing, &'static [u8]),
-    /// The sink is set to refuse its next call.
-    SinkIsSet,
     /// The end waits so many seconds for its next timeout.
     Waits(Backoff, u16),
     /// The end keeps so many bytes.
@@ -372,6 +370,27 @@ impl OpenEnd {
         self.end.on_datagram(&mut self.files, from, bytes, sent)
     }
 
+    /// Delivers a datagram of a scene, which is answered so.
+    pub(crate) fn answers(
+        &mut self,
+        rt: &impl Abort,
+        (scene, bytes): (&str, &[u8]),
+        sent: &mut Vec<u8>,
+        from: Endpoint,
+        answer: &[u8],
+        then: Then,
+    ) {
+        let step = self.takes(from, bytes, sent);
+        is_done(
+            rt,
+            (scene, bytes),
+            (sent.as_slice(), step),
+            answer,
+            from,
+            then,
+        );
+    }
+
     /// As [`is_done`], of a call that lends the answer.
     fn has_lent(
         &self,
@@ -390,7 +409,7 @@ impl OpenEnd {
     }
 
     /// Sets the sink to refuse its next call.
-    fn set_sink(&mut self) {
+    pub(crate) fn set_sink(&mut self) {
         if let Files::Sink(sink) = &mut self.files {
             sink.refuse_next(true);
         }
@@ -415,27 +434,13 @@ impl OpenEnd {
     ) {
         match *event {
             Event::Arrives(from, bytes, answer, then) => {
-                let step = self.takes(from, bytes, sent);
-                is_done(
-                    rt,
-                    (scene, bytes),
-                    (sent.as_slice(), step),
-                    answer,
-                    from,
-                    then,
-                );
+                self.answers(rt, (scene, bytes), sent, from, answer, then);
             }
             Event::TimesOut(answer, to, then) => {
                 sent.clear();
                 let step = self.end.on_timeout(sent);
-                is_done(
-                    rt,
-                    (scene, b"timeout"),
-                    (sent.as_slice(), step),
-                    answer,
-                    to,
-                    then,
-                );
+                let event = (scene, b"timeout".as_slice());
+                is_done(rt, event, (sent.as_slice(), step), answer, to, then);
             }
             Event::Lends(from, bytes, answer, then) => {
                 let found = self.end.handle_datagram(&mut self.files, from, bytes);
@@ -448,7 +453,6 @@ impl OpenEnd {
             Event::Lent(outgoing, bytes) => {
                 expect_equal(rt, &self.end.bytes_of(outgoing), &bytes, scene);
             }
-            Event::SinkIsSet => self.set_sink(),
             Event::Waits(backoff, seconds) => {
                 let found = backoff.wait(self.end.interval(), self.end.timeouts());
                 expect_equal(rt, &found, &seconds, scene);

@@ -67,7 +67,7 @@ const SOME_LENGTH: Asked = Asked {
 
 /// Requests that are refused, and lengths past those that blocks of 8 bytes carry: 65,534 whole
 /// blocks and a last one of 7 bytes.
-const REFUSED: [(&str, Opening, OpenFault); 6] = [
+static REFUSED: [(&str, Opening, OpenFault); 6] = [
     (
         "a block size of 7",
         Opening::Get(b"a", Mode::Octet, SMALL_BLOCKS, CONFIG),
@@ -115,7 +115,7 @@ aaaaaaaaaaaaaaaaaaaaaaaaaaaaaaaaaaaaaaaaaaaaaaaaaaaaaaaaaaaaaaaaaaaaaa\
 
 /// Requests: option names in lower case, values in decimal, and no length in netascii. Last the
 /// longest name, and the longest file by small blocks.
-const REQUESTS: [Scene; 5] = [
+static REQUESTS: [Scene; 5] = [
     Scene {
         name: "a block size and a timeout are requested",
         opening: Opening::Get(b"boot.img", Mode::Octet, SIZE_AND_TIME, CONFIG),
@@ -157,7 +157,7 @@ const OACK_512: &[u8] = b"\x00\x06blksize\x00512\x00";
 
 /// Ends of a server: the options of an OACK are in the order of the request, in lower case (RFC
 /// 2347, "Packet Formats").
-const ANSWERS: [Scene; 4] = [
+static ANSWERS: [Scene; 4] = [
     Scene {
         name: "a block size and a timeout are agreed",
         opening: Opening::ServeRead(
@@ -230,7 +230,7 @@ const GET_BY_BOTH: Opening = Opening::Get(b"a", Mode::Octet, SIZE_AND_TIME, CONF
 const RRQ_BY_BOTH: &[u8] = b"\x00\x01a\x00octet\x00blksize\x001428\x00timeout\x003\x00";
 
 /// Clients that accept an OACK, and use its block size and timeout, or else the defaults.
-const ACCEPTED: [Scene; 4] = [
+static ACCEPTED: [Scene; 4] = [
     // The client acknowledges the OACK by ACK 0, and a repeated one again. Then it receives the
     // blocks.
     Scene {
@@ -303,7 +303,7 @@ const ACCEPTED: [Scene; 4] = [
 ];
 
 /// Clients that refuse the first answer from the server, and take no peer.
-const REFUSES: [Scene; 5] = [
+static REFUSES: [Scene; 5] = [
     Scene {
         name: "an OACK of a larger block size",
         opening: GET_BY_BOTH,

@@ -3,13 +3,14 @@
 //! A row has the options as `name=value`, separated by commas, and the result: the agreed list and
 //! the block size, or the refusal.
 
-use crate::expect::{expect, expect_equal, expect_text};
-use crate::packet_rows::{bytes_of, read_request};
-use std::alloc::{AllocError, Global};
+use crate::expect::{expect, expect_equal};
+use crate::open_end::NOTHING;
+use crate::packet_rows::{bytes_of, options_in};
+use std::alloc::Global;
 use std::process::Abort;
 use tftp_negotiate::{
     Agreed, Asked, Kind, Known, Limits, Name, Refusal, accept, accept_ref, check_oack,
-    is_block_size,
+    check_oack_ref, is_block_size,
 };
 use tftp_wire::{Mode, RawOption};
 
@@ -21,12 +22,6 @@ const ROOMY: Limits = Limits {
 const TIGHT: Limits = Limits {
     max_block: 1428,
     max_file: 1000,
-};
-
-pub(crate) const NOTHING: Asked = Asked {
-    blksize: None,
-    timeout: None,
-    tsize: None,
 };
 
 /// Requests only a block size.
@@ -65,124 +60,33 @@ pub(crate) const OCTET: Mode = Mode::Octet;
 
 pub(crate) const NETASCII: Mode = Mode::Netascii;
 
-/// A client: the options that it requested, and the most bytes of a file that it accepts.
-#[derive(Drop)]
-struct Client {
-    asked: Asked,
-    limit: u64,
+/// Who handles the options.
+#[derive(Clone, Copy)]
+enum Party {
+    /// A server with these limits and a file of 10 bytes answers a request.
+    Server(Limits),
+    /// A client that requested these options, and accepts so many bytes of a file, handles an OACK.
+    Client(Asked, u64),
 }
 
-/// A client that requested all three options, and accepts 39 bytes.
-const ALL_OF_39: Client = Client {
-    asked: ALL,
-    limit: 39,
-};
+/// A party, the kinds and modes in which it handles the options of each row, and the rows.
+type Group = (
+    Party,
+    &'static [(Kind, Mode)],
+    &'static [(&'static str, &'static str)],
+);
 
 /// Each kind in each mode.
-const DIRECTIONS: [(Kind, Mode); 4] = [
+const DIRECTIONS: &[(Kind, Mode)] = &[
     (READ, OCTET),
     (READ, NETASCII),
     (WRITE, OCTET),
     (WRITE, NETASCII),
 ];
 
-/// Values that are not numbers, for any option. The RFCs only say that values are ASCII; this
-/// project accepts a number in one spelling, below 2^64.
-const NO_NUMBERS: [&str; 14] = [
-    "",
-    "00",
-    "01",
-    "08",
-    "+8",
-    "-8",
-    " 8",
-    "8 ",
-    "8.0",
-    "0x8",
-    "1e3",
-    "eight",
-    "18446744073709551616",
-    "99999999999999999999",
-];
-
-const NAMES: [&str; 3] = ["blksize", "timeout", "tsize"];
-
-fn options_of(rt: &impl Abort, alloc: Global, row: &str) -> Vec<RawOption> {
-    let mut options = Vec::new(alloc);
-    for option in row.split(',') {
-        if let Some((name, value)) = option.split_once('=') {
-            let option = option_of(rt, alloc, name, value);
-            options.push(option).expect(rt, "memory");
-        }
-    }
-    options
-}
-
-fn option_of(rt: &impl Abort, alloc: Global, name: &str, value: &str) -> RawOption {
-    let name = bytes_of(rt, alloc, name.as_bytes());
-    let value = bytes_of(rt, alloc, value.as_bytes());
-    RawOption { name, value }
-}
-
-fn shown(alloc: Global, outcome: Result<Agreed, Refusal>) -> Result<String, AllocError> {
-    match outcome {
-        Ok(agreed) => {
-            let list = agreed.as_slice();
-            let size = agreed.block_size();
-            format!(in alloc; "{list:?} {size}")
-        }
-        Err(refusal) => format!(in alloc; "{refusal:?}"),
-    }
-}
-
-/// The options of this kind and mode have this result; `what` names the options.
-pub(crate) fn comes_out(
-    rt: &impl Abort,
-    alloc: Global,
-    direction: (Kind, Mode),
-    outcome: Result<Agreed, Refusal>,
-    expected: &str,
-    what: &str,
-) {
-    let got = shown(alloc, outcome).expect(rt, "memory");
-    expect_equal(rt, &(direction, got.as_str()), &(direction, expected), what);
-}
-
-/// A server with a file of 10 bytes answers a request with these options by this result.
-fn answers(
-    rt: &impl Abort,
-    alloc: Global,
-    limits: &Limits,
-    (kind, mode): (Kind, Mode),
-    row: &str,
-    expected: &str,
-) {
-    let largest = u64::from(limits.max_block);
-    expect(rt, is_block_size(largest), row);
-    let options = options_of(rt, alloc, row);
-    let outcome = accept(options.as_slice(), kind, mode, 10, limits);
-    comes_out(rt, alloc, (kind, mode), outcome, expected, row);
-}
-
-/// A client handles an OACK with these options with this result.
-fn takes(
-    rt: &impl Abort,
-    alloc: Global,
-    client: &Client,
-    (kind, mode): (Kind, Mode),
-    row: &str,
-    expected: &str,
-) {
-    let Client { asked, limit } = client;
-    expect(rt, asked.is_askable(), row);
-    let options = options_of(rt, alloc, row);
-    let outcome = check_oack(asked, kind, mode, options.as_slice(), *limit);
-    comes_out(rt, alloc, (kind, mode), outcome, expected, row);
-}
-
 /// The first two rows have the options of a request in two orders; the answer has the same order
 /// (RFC 2347: the order of options has no meaning).
-const LIMITED: [(&str, &str); 10] = [
+const LIMITED: &[(&str, &str)] = &[
     ("BLKSIZE=1428,timeout=3", "[Blksize(1428), Timeout(3)] 1428"),
     ("timeout=3,BLKSIZE=1428", "[Timeout(3), Blksize(1428)] 1428"),
     ("blksize=65464", "[Blksize(1428)] 1428"),
@@ -195,15 +99,8 @@ const LIMITED: [(&str, &str); 10] = [
     ("", "[] 512"),
 ];
 
-#[test]
-fn answers_keep_to_limits(rt: HostRuntime) {
-    for &(row, expected) in &LIMITED {
-        answers(&rt, rt.alloc(), &TIGHT, (READ, OCTET), row, expected);
-    }
-}
-
 /// The ranges of RFC 2348 (8 to 65,464) and RFC 2349 (1 to 255), in both modes, both ways.
-const RANGES: [(&str, &str); 21] = [
+const RANGES: &[(&str, &str)] = &[
     ("blksize=0", "[] 512"),
     ("blksize=7", "[] 512"),
     ("blksize=8", "[Blksize(8)] 8"),
@@ -227,74 +124,35 @@ const RANGES: [(&str, &str); 21] = [
     ("tsize=x,tsize=y", "Repeated"),
 ];
 
-fn keeps_to_ranges(rt: &impl Abort, alloc: Global, direction: (Kind, Mode)) {
-    for &(row, expected) in &RANGES {
-        answers(rt, alloc, &ROOMY, direction, row, expected);
-    }
-}
-
-#[test]
-fn answers_keep_to_ranges(rt: HostRuntime) {
-    for &direction in &DIRECTIONS {
-        keeps_to_ranges(&rt, rt.alloc(), direction);
-    }
-}
-
-/// The option in the form of a row.
-fn row_of(rt: &impl Abort, alloc: Global, name: &str, value: &str) -> String {
-    format!(in alloc; "{name}={value}").expect(rt, "memory")
-}
-
-/// The answer omits each option with each value that is not a number.
-fn leaves_out_no_numbers(rt: &impl Abort, alloc: Global, direction: (Kind, Mode), name: &str) {
-    for &value in &NO_NUMBERS {
-        let row = row_of(rt, alloc, name, value);
-        answers(rt, alloc, &ROOMY, direction, row.as_str(), "[] 512");
-    }
-}
-
-#[test]
-fn answers_leave_out_no_numbers(rt: HostRuntime) {
-    for &direction in &DIRECTIONS {
-        for &name in &NAMES {
-            leaves_out_no_numbers(&rt, rt.alloc(), direction, name);
-        }
-    }
-}
-
 /// A read requests 0 and is answered by the length, here 10. A write states its length (RFC 2349).
 /// In netascii the option is omitted.
-const LENGTHS: [(Kind, Mode, &str, &str); 12] = [
-    (READ, OCTET, "tsize=0", "[Tsize(10)] 512"),
-    (READ, OCTET, "tsize=1", "[] 512"),
-    (READ, OCTET, "tsize=10", "[] 512"),
-    (WRITE, OCTET, "tsize=0", "[Tsize(0)] 512"),
-    (WRITE, OCTET, "tsize=1000", "[Tsize(1000)] 512"),
-    (WRITE, OCTET, "tsize=1001", "TooLarge"),
-    (WRITE, OCTET, "timeout=1,tsize=1001,blksize=8", "TooLarge"),
-    (WRITE, OCTET, "tsize=1001,tsize=1", "Repeated"),
-    (READ, NETASCII, "tsize=0", "[] 512"),
-    (WRITE, NETASCII, "tsize=1", "[] 512"),
-    (WRITE, NETASCII, "tsize=1001", "[] 512"),
-    (WRITE, NETASCII, "tsize=1,tsize=1", "Repeated"),
+const READ_LENGTHS: &[(&str, &str)] = &[
+    ("tsize=0", "[Tsize(10)] 512"),
+    ("tsize=1", "[] 512"),
+    ("tsize=10", "[] 512"),
 ];
 
-#[test]
-fn answers_say_lengths(rt: HostRuntime) {
-    for &(kind, mode, row, expected) in &LENGTHS {
-        answers(&rt, rt.alloc(), &TIGHT, (kind, mode), row, expected);
-    }
-}
+const WRITE_LENGTHS: &[(&str, &str)] = &[
+    ("tsize=0", "[Tsize(0)] 512"),
+    ("tsize=1000", "[Tsize(1000)] 512"),
+    ("tsize=1001", "TooLarge"),
+    ("timeout=1,tsize=1001,blksize=8", "TooLarge"),
+    ("tsize=1001,tsize=1", "Repeated"),
+];
 
-#[test]
-fn the_largest_length_is_answered(rt: HostRuntime) {
-    let row = "tsize=18446744073709551615";
-    let expected = "[Tsize(18446744073709551615)] 512";
-    answers(&rt, rt.alloc(), &ROOMY, (WRITE, OCTET), row, expected);
-}
+const NETASCII_LENGTHS: &[(&str, &str)] = &[
+    ("tsize=1", "[] 512"),
+    ("tsize=1001", "[] 512"),
+    ("tsize=1,tsize=1", "Repeated"),
+];
+
+const LARGEST_LENGTH: &[(&str, &str)] = &[(
+    "tsize=18446744073709551615",
+    "[Tsize(18446744073709551615)] 512",
+)];
 
 /// OACKs for a client that requested a block size.
-const SIZE_OACKS: [(&str, &str); 11] = [
+const SIZE_OACKS: &[(&str, &str)] = &[
     ("blksize=512", "[Blksize(512)] 512"),
     ("BLKSIZE=8", "[Blksize(8)] 8"),
     ("blksize=1428", "[Blksize(1428)] 1428"),
@@ -309,7 +167,7 @@ const SIZE_OACKS: [(&str, &str); 11] = [
 ];
 
 /// OACKs for a client that requested the length of the file.
-const LENGTH_OACKS: [(&str, &str); 6] = [
+const LENGTH_OACKS: &[(&str, &str)] = &[
     ("tsize=1000", "[Tsize(1000)] 512"),
     ("tsize=1001", "TooLarge"),
     ("tsize=01", "BadValue"),
@@ -319,7 +177,7 @@ const LENGTH_OACKS: [(&str, &str); 6] = [
 ];
 
 /// OACKs for a client that requested a timeout.
-const WAIT_OACKS: [(&str, &str); 4] = [
+const WAIT_OACKS: &[(&str, &str)] = &[
     ("timeout=3", "[Timeout(3)] 512"),
     ("timeout=4", "BadValue"),
     ("timeout=2", "BadValue"),
@@ -327,118 +185,233 @@ const WAIT_OACKS: [(&str, &str); 4] = [
 ];
 
 /// OACKs for a client that requested no option.
-const UNASKED_OACKS: [(&str, &str); 3] = [
+const UNASKED_OACKS: &[(&str, &str)] = &[
     ("timeout=3", "NotAsked"),
     ("blksize=512", "NotAsked"),
     ("tsize=0", "NotAsked"),
 ];
 
-/// A client that requested these options, and accepts 1,000 bytes, handles each OACK of an octet
-/// read with its result.
-fn takes_each(rt: &impl Abort, alloc: Global, asked: Asked, rows: &[(&str, &str)]) {
-    let client = Client { asked, limit: 1000 };
-    for (row, expected) in rows {
-        takes(rt, alloc, &client, (READ, OCTET), row, expected);
-    }
-}
-
-#[test]
-fn option_rows(rt: HostRuntime) {
-    let rt = &rt;
-    takes_each(rt, rt.alloc(), SIZE, &SIZE_OACKS);
-    takes_each(rt, rt.alloc(), LENGTH, &LENGTH_OACKS);
-    takes_each(rt, rt.alloc(), WAIT, &WAIT_OACKS);
-    takes_each(rt, rt.alloc(), NOTHING, &UNASKED_OACKS);
-}
-
 /// The other modes and kinds: a write accepts only the length that it stated (RFC 2349), and in
 /// netascii no length counts as requested. The limit is 39 bytes.
-const OACK_LENGTHS: [(Kind, Mode, &str, &str); 10] = [
-    (WRITE, OCTET, "tsize=41", "[Tsize(41)] 512"),
-    (WRITE, OCTET, "tsize=40", "BadValue"),
-    (WRITE, OCTET, "tsize=0", "BadValue"),
-    (READ, OCTET, "tsize=39", "[Tsize(39)] 512"),
-    (READ, OCTET, "tsize=40", "TooLarge"),
-    (READ, NETASCII, "tsize=39", "NotAsked"),
-    (WRITE, NETASCII, "tsize=41", "NotAsked"),
-    (WRITE, NETASCII, "tsize=41,tsize=41", "Repeated"),
+const STATED: &[(&str, &str)] = &[
+    ("tsize=41", "[Tsize(41)] 512"),
+    ("tsize=40", "BadValue"),
+    ("tsize=0", "BadValue"),
+];
+
+const WITHIN_LIMIT: &[(&str, &str)] = &[
+    ("tsize=39", "[Tsize(39)] 512"),
+    ("tsize=40", "TooLarge"),
     (
-        WRITE,
-        NETASCII,
-        "blksize=65464,timeout=255",
-        "[Blksize(65464), Timeout(255)] 65464",
-    ),
-    (
-        READ,
-        OCTET,
         "tsize=0,timeout=255,blksize=8",
         "[Tsize(0), Timeout(255), Blksize(8)] 8",
     ),
 ];
 
-#[test]
-fn oack_lengths(rt: HostRuntime) {
-    for &(kind, mode, row, expected) in &OACK_LENGTHS {
-        takes(&rt, rt.alloc(), &ALL_OF_39, (kind, mode), row, expected);
+const NETASCII_OACKS: &[(&str, &str)] = &[
+    ("tsize=41", "NotAsked"),
+    ("tsize=41,tsize=41", "Repeated"),
+    (
+        "blksize=65464,timeout=255",
+        "[Blksize(65464), Timeout(255)] 65464",
+    ),
+];
+
+static GROUPS: [Group; 15] = [
+    (Party::Server(TIGHT), &[(READ, OCTET)], LIMITED),
+    (Party::Server(ROOMY), DIRECTIONS, RANGES),
+    (Party::Server(TIGHT), &[(READ, OCTET)], READ_LENGTHS),
+    (Party::Server(TIGHT), &[(WRITE, OCTET)], WRITE_LENGTHS),
+    (
+        Party::Server(TIGHT),
+        &[(READ, NETASCII)],
+        &[("tsize=0", "[] 512")],
+    ),
+    (Party::Server(TIGHT), &[(WRITE, NETASCII)], NETASCII_LENGTHS),
+    (Party::Server(ROOMY), &[(WRITE, OCTET)], LARGEST_LENGTH),
+    (Party::Client(SIZE, 1000), &[(READ, OCTET)], SIZE_OACKS),
+    (Party::Client(LENGTH, 1000), &[(READ, OCTET)], LENGTH_OACKS),
+    (Party::Client(WAIT, 1000), &[(READ, OCTET)], WAIT_OACKS),
+    (
+        Party::Client(NOTHING, 1000),
+        &[(READ, OCTET)],
+        UNASKED_OACKS,
+    ),
+    (Party::Client(ALL, 39), &[(WRITE, OCTET)], STATED),
+    (Party::Client(ALL, 39), &[(READ, OCTET)], WITHIN_LIMIT),
+    (
+        Party::Client(ALL, 39),
+        &[(READ, NETASCII)],
+        &[("tsize=39", "NotAsked")],
+    ),
+    (Party::Client(ALL, 39), &[(WRITE, NETASCII)], NETASCII_OACKS),
+];
+
+/// Values that are not numbers, for any option. The RFCs only say that values are ASCII; this
+/// project accepts a number in one spelling, below 2^64.
+static NO_NUMBERS: [&str; 14] = [
+    "",
+    "00",
+    "01",
+    "08",
+    "+8",
+    "-8",
+    " 8",
+    "8 ",
+    "8.0",
+    "0x8",
+    "1e3",
+    "eight",
+    "18446744073709551616",
+    "99999999999999999999",
+];
+
+static NAMES: [&str; 3] = ["blksize", "timeout", "tsize"];
+
+fn options_of(rt: &impl Abort, alloc: Global, row: &str) -> Vec<RawOption> {
+    let mut options = Vec::new(alloc);
+    for option in row.split(',') {
+        if let Some((name, value)) = option.split_once('=') {
+            let name = bytes_of(rt, alloc, name.as_bytes());
+            let value = bytes_of(rt, alloc, value.as_bytes());
+            let option = RawOption { name, value };
+            options.push(option).expect(rt, "memory");
+        }
+    }
+    options
+}
+
+fn option_of(rt: &impl Abort, alloc: Global, name: &str, value: &str) -> RawOption {
+    let name = bytes_of(rt, alloc, name.as_bytes());
+    let value = bytes_of(rt, alloc, value.as_bytes());
+    RawOption { name, value }
+}
+
+/// The options of this kind and mode have this result; `what` names the options.
+fn comes_out(
+    rt: &impl Abort,
+    alloc: Global,
+    outcome: Result<Agreed, Refusal>,
+    expected: &str,
+    what: (Kind, Mode, &str),
+) {
+    let shown = match outcome {
+        Ok(agreed) => {
+            let list = agreed.as_slice();
+            let size = agreed.block_size();
+            format!(in alloc; "{list:?} {size}")
+        }
+        Err(refusal) => format!(in alloc; "{refusal:?}"),
+    };
+    let found = shown.expect(rt, "memory");
+    expect_equal(rt, &(what, found.as_str()), &(what, expected), "a result");
+}
+
+/// The party handles options of this kind and mode with this result.
+fn handles(
+    rt: &impl Abort,
+    alloc: Global,
+    party: &Party,
+    (kind, mode): (Kind, Mode),
+    row: &str,
+    expected: &str,
+) {
+    let options = options_of(rt, alloc, row);
+    let outcome = match party {
+        Party::Server(limits) => {
+            expect(rt, is_block_size(u64::from(limits.max_block)), row);
+            accept(options.as_slice(), kind, mode, 10, limits)
+        }
+        Party::Client(asked, limit) => {
+            expect(rt, asked.is_askable(), row);
+            check_oack(asked, kind, mode, options.as_slice(), *limit)
+        }
+    };
+    comes_out(rt, alloc, outcome, expected, (kind, mode, row));
+}
+
+fn handles_each(rt: &impl Abort, alloc: Global, (party, directions, rows): &Group) {
+    for &direction in *directions {
+        for &(row, expected) in *rows {
+            handles(rt, alloc, party, direction, row, expected);
+        }
     }
 }
 
-/// A client refuses an OACK with each option with each value that is not a number.
-fn refuses_no_numbers(rt: &impl Abort, alloc: Global, kind: Kind, name: &str) {
-    for &value in &NO_NUMBERS {
-        let row = row_of(rt, alloc, name, value);
-        let direction = (kind, OCTET);
-        takes(rt, alloc, &ALL_OF_39, direction, row.as_str(), "BadValue");
+#[test]
+fn option_rows(rt: HostRuntime) {
+    for group in &GROUPS {
+        handles_each(&rt, rt.alloc(), group);
+    }
+}
+
+/// A server omits each option with each value that is not a number. A client that requested it
+/// refuses an OACK with one, of a read and of a write.
+fn has_no_number(rt: &impl Abort, alloc: Global, name: &str, value: &str) {
+    let row = format!(in alloc; "{name}={value}").expect(rt, "memory");
+    for &direction in DIRECTIONS {
+        let server = Party::Server(ROOMY);
+        handles(rt, alloc, &server, direction, row.as_str(), "[] 512");
+    }
+    for kind in [READ, WRITE] {
+        let client = Party::Client(ALL, 39);
+        handles(rt, alloc, &client, (kind, OCTET), row.as_str(), "BadValue");
     }
 }
 
 #[test]
-fn oacks_hold_numbers(rt: HostRuntime) {
+fn options_hold_numbers(rt: HostRuntime) {
     for &name in &NAMES {
-        refuses_no_numbers(&rt, rt.alloc(), READ, name);
-        refuses_no_numbers(&rt, rt.alloc(), WRITE, name);
+        for &value in &NO_NUMBERS {
+            has_no_number(&rt, rt.alloc(), name, value);
+        }
     }
 }
 
 /// `count` options are agreed, with this block size and timeout.
 fn agrees(rt: &impl Abort, agreed: &Agreed, size: u16, timeout: Option<u8>, count: usize) {
     let list = (agreed.is_empty(), agreed.as_slice().len());
-    expect_equal(rt, &list, &(count == 0, count), "the options");
-    let values = (agreed.block_size(), agreed.timeout());
-    expect_equal(rt, &values, &(size, timeout), "block size and timeout");
+    let found = (list, agreed.block_size(), agreed.timeout());
+    let expected = ((count == 0, count), size, timeout);
+    expect_equal(rt, &found, &expected, "options, block size and timeout");
 }
 
+/// Without options, blocks have 512 bytes (RFC 1350, section 2).
 #[test]
 fn agreed_values(rt: HostRuntime) {
     let rt = &rt;
     let options = options_of(rt, rt.alloc(), "tsize=0,timeout=9,blksize=64");
     let outcome = accept(options.as_slice(), READ, OCTET, 10, &ROOMY);
-    let agreed = outcome.expect(rt, "the options are answered");
-    agrees(rt, &agreed, 64, Some(9), 3);
-}
-
-#[test]
-fn default_values(rt: HostRuntime) {
-    let rt = &rt;
-    // blocks have 512 bytes without options (RFC 1350, section 2)
+    agrees(rt, &outcome.expect(rt, "an answer"), 64, Some(9), 3);
     agrees(rt, &Agreed::default(), 512, None, 0);
     expect(rt, Agreed::new().is_empty(), "no option at first");
     expect_equal(rt, &Known::default(), &Known::Tsize(0), "what a read asks");
 }
 
-/// The options of a datagram have the same result as owned ones: an RRQ with two options (RFC 2347,
-/// "Packet Formats").
+/// A client that requests a larger block size than the server's, and a timeout.
+const LARGER: Asked = Asked {
+    blksize: Some(2000),
+    timeout: Some(3),
+    tsize: None,
+};
+
+/// The options of a datagram have the same result as owned ones: an RRQ with two options, and an
+/// OACK with a smaller block size than the client requested (RFC 2347, "Packet Formats").
 #[test]
-fn a_datagram_is_answered(rt: HostRuntime) {
-    let request = b"\0\x01boot.img\0octet\0BLKSIZE\01428\0timeout\03\0";
-    let read = read_request(&rt, request);
-    let answer = accept_ref(&read.options, READ, read.mode, 10, &TIGHT);
+fn datagrams_are_handled(rt: HostRuntime) {
+    let (rt, alloc) = (&rt, rt.alloc());
     let expected = "[Blksize(1428), Timeout(3)] 1428";
-    comes_out(&rt, rt.alloc(), (READ, OCTET), answer, expected, "the RRQ");
+    let request = b"\0\x01boot.img\0octet\0BLKSIZE\01428\0timeout\03\0";
+    let answer = accept_ref(&options_in(rt, request), READ, OCTET, 10, &TIGHT);
+    comes_out(rt, alloc, answer, expected, (READ, OCTET, "the RRQ"));
+    expect(rt, LARGER.is_askable(), "what may be asked");
+    let oack = options_in(rt, b"\0\x06blksize\01428\0timeout\03\0");
+    let taken = check_oack_ref(&LARGER, READ, OCTET, &oack, 10);
+    comes_out(rt, alloc, taken, expected, (READ, OCTET, "the OACK"));
 }
 
 /// Option names are case-insensitive (RFC 2347, "Packet Formats").
-const OPTION_NAMES: [(&[u8], Option<Name>); 5] = [
+static OPTION_NAMES: [(&[u8], Option<Name>); 5] = [
     (b"blksize", Some(Name::Blksize)),
     (b"TIMEOUT", Some(Name::Timeout)),
     (b"tSIZe", Some(Name::Tsize)),
@@ -446,14 +419,7 @@ const OPTION_NAMES: [(&[u8], Option<Name>); 5] = [
     (b"tsize ", None),
 ];
 
-#[test]
-fn option_names(rt: HostRuntime) {
-    for &(bytes, name) in &OPTION_NAMES {
-        expect_equal(&rt, &(bytes, Name::of(bytes)), &(bytes, name), "a name");
-    }
-}
-
-const REFUSALS: [(Refusal, u8, &str); 4] = [
+static REFUSALS: [(Refusal, u8, &str); 4] = [
     (Refusal::Repeated, 1, "a known option stands twice"),
     (Refusal::TooLarge, 2, "the file is too large"),
     (Refusal::NotAsked, 3, "an option was not asked"),
@@ -464,16 +430,14 @@ const REFUSALS: [(Refusal, u8, &str); 4] = [
     ),
 ];
 
-/// The refusal has this number and prints this text.
-fn is_shown_as(rt: &impl Abort, alloc: Global, refusal: Refusal, number: u8, text: &str) {
-    expect_equal(rt, &refusal.number(), &number, text);
-    let shown = format!(in alloc; "{refusal}").expect(rt, "memory");
-    expect_text(rt, shown.as_str(), text, text);
-}
-
 #[test]
-fn refusals(rt: HostRuntime) {
+fn option_words(rt: HostRuntime) {
+    for &(bytes, name) in &OPTION_NAMES {
+        expect_equal(&rt, &(bytes, Name::of(bytes)), &(bytes, name), "a name");
+    }
     for &(refusal, number, text) in &REFUSALS {
-        is_shown_as(&rt, rt.alloc(), refusal, number, text);
+        let shown = format!(in rt.alloc(); "{refusal}").expect(&rt, "memory");
+        let found = (refusal.number(), shown.as_str());
+        expect_equal(&rt, &found, &(number, text), "the number and the words");
     }
 }

@@ -6,7 +6,7 @@ use std::process::Abort;
 use tftp_file::{Path, PathFault, path_of};
 
 /// Names that stand for no path, with the first fault.
-const FAULTS: [(&[u8], PathFault); 9] = [
+static FAULTS: [(&[u8], PathFault); 9] = [
     (b"", PathFault::Empty),
     (b"/", PathFault::Empty),
     (b"//a", PathFault::Segment),
@@ -32,7 +32,7 @@ fn wrong_names(rt: HostRuntime) {
 }
 
 /// Names, and the paths that they stand for.
-const PATHS: [(&[u8], &[u8]); 5] = [
+static PATHS: [(&[u8], &[u8]); 5] = [
     (b"a/b/c/d/e/f/g/h", b"a/b/c/d/e/f/g/h"),
     (b"/boot.img", b"boot.img"),
     (b"A", b"A"),
@@ -73,7 +73,7 @@ fn case_counts(rt: HostRuntime) {
 /// How many letters each segment has, and the fault. A segment has at most 64 letters, a path at
 /// most 8 segments and 255 bytes. The length is tested before the depth, the depth before the
 /// segments.
-const LENGTHS: [(&[usize], Option<PathFault>); 7] = [
+static LENGTHS: [(&[usize], Option<PathFault>); 7] = [
     (&[1; 8], None),
     (&[1; 9], Some(PathFault::Depth)),
     (&[64], None),

@@ -1,6 +1,7 @@
 //! A source over a reader and a sink over a writer, some of which fail.
 
-use crate::calls::{AtEnd, appends, commits, fails, gives_each};
+use crate::calls::SinkCall::{Append, Commit};
+use crate::calls::{Fill, SinkCall, calls, fills};
 use crate::expect::{expect, expect_bytes, expect_equal};
 use std::alloc::Global;
 use std::io;
@@ -14,26 +15,15 @@ use tftp_wire::Mode;
 struct Script {
     text: &'static [u8],
     at_a_time: usize,
-    at_end: AtEnd,
+    then_fails: bool,
     reads: u32,
-}
-
-impl Script {
-    fn new(text: &'static [u8], at_a_time: usize, at_end: AtEnd) -> Script {
-        Script {
-            text,
-            at_a_time,
-            at_end,
-            reads: 0,
-        }
-    }
 }
 
 impl Read for Script {
     fn read(&mut self, buf: &mut [u8]) -> io::Result<usize> {
         self.reads = self.reads.saturating_add(1);
         let text = self.text;
-        if text.is_empty() && self.at_end.fails() {
+        if text.is_empty() && self.then_fails {
             return Err(io::Error::from(io::ErrorKind::Other));
         }
         let count = self.at_a_time.min(text.len()).min(buf.len());
@@ -49,14 +39,14 @@ impl Read for Script {
 struct Tape {
     written: Vec<u8>,
     room: usize,
-    when_full: AtEnd,
+    then_fails: bool,
     flush_fails: bool,
 }
 
 impl Write for Tape {
     fn write(&mut self, buf: &[u8]) -> io::Result<usize> {
         let count = self.room.min(buf.len());
-        if count == 0 && self.when_full.fails() {
+        if count == 0 && self.then_fails {
             return Err(io::Error::from(io::ErrorKind::Other));
         }
         self.written.extend_from_slice(&buf[..count])?;
@@ -74,146 +64,168 @@ impl Write for Tape {
 }
 
 /// Fills of three bytes of two line ends, which are four bytes of wire text (RFC 764), and how many
-/// bytes the source then holds back.
-const LINE_ENDS: [(&[u8], usize); 3] = [(b"\r\n\r", 1), (b"\n", 0), (b"", 0)];
+/// bytes the source then holds back: at most the second byte of a pair.
+static LINE_ENDS: [(&[Fill], usize); 4] = [
+    (&[], 0),
+    (&[(3, Ok(b"\r\n\r"))], 1),
+    (&[(3, Ok(b"\n"))], 0),
+    (&[(3, Ok(b""))], 0),
+];
 
-/// The next fill of three bytes gives this piece, and the source then holds back `held` bytes.
-fn gives_and_holds(
-    rt: &impl Abort,
-    alloc: Global,
-    source: &mut ReadSource<&[u8]>,
-    piece: &[u8],
-    held: usize,
-) {
-    gives_each(rt, alloc, source, 3, &[piece]);
-    expect_equal(rt, &(piece, source.held()), &(piece, held), "held back");
-}
-
-/// The source gives them, and holds back at most the second byte of a pair.
-fn gives_line_ends(rt: &impl Abort, alloc: Global) {
+#[test]
+fn line_ends_are_held_back(rt: HostRuntime) {
     let mut source = ReadSource::new(b"\n\n".as_slice(), Mode::Netascii);
-    expect_equal(rt, &source.held(), &0, "before the first fill");
-    for &(piece, held) in &LINE_ENDS {
-        gives_and_holds(rt, alloc, &mut source, piece, held);
+    for &(pieces, held) in &LINE_ENDS {
+        fills(&rt, rt.alloc(), &mut source, pieces, "two line ends");
+        expect_equal(&rt, &source.held(), &held, "held back");
     }
-    expect(rt, source.get_ref().is_empty(), "the reader is at its end");
+    expect(&rt, source.get_ref().is_empty(), "the reader is at its end");
 }
 
-/// Bytes at a time, the mode, and the fills of four bytes of `A`, LF, `B`, CR, `C`.
-const SHORT_READS: [(usize, Mode, &[&[u8]]); 6] = [
-    (1, Mode::Netascii, &[b"A\r\nB", b"\r\0C", b""]),
-    (2, Mode::Netascii, &[b"A\r\nB", b"\r\0C", b""]),
-    (5, Mode::Netascii, &[b"A\r\nB", b"\r\0C", b""]),
-    (1, Mode::Octet, &[b"A\nB\r", b"C", b""]),
-    (2, Mode::Octet, &[b"A\nB\r", b"C", b""]),
-    (5, Mode::Octet, &[b"A\nB\r", b"C", b""]),
+/// A text that is read, how many bytes at a time and whether the reader then fails, the mode, fills,
+/// how many reads they take where that is known, and fills after them.
+type Reading = (
+    &'static [u8],
+    usize,
+    bool,
+    Mode,
+    &'static [Fill],
+    Option<u32>,
+    &'static [Fill],
+);
+
+/// `A`, LF, `B`, CR, `C`.
+const TEXT: &[u8] = b"A\nB\rC";
+
+/// Its fills of four bytes in netascii.
+const NETASCII: &[Fill] = &[(4, Ok(b"A\r\nB")), (4, Ok(b"\r\0C")), (4, Ok(b""))];
+
+/// Its fills of four bytes in octet.
+const OCTET: &[Fill] = &[(4, Ok(b"A\nB\r")), (4, Ok(b"C")), (4, Ok(b""))];
+
+/// A fill that fails, and leaves the buffer unchanged.
+const READ_FAILS: &[Fill] = &[(3, Err(FileFault::Read))];
+
+/// Fills of more bytes than can be allocated.
+const GREATEST: &[Fill] = &[(usize::MAX, Err(FileFault::Memory))];
+
+const GREAT: &[Fill] = &[(usize::MAX / 2, Err(FileFault::Memory))];
+
+const AB: &[Fill] = &[(3, Ok(b"AB"))];
+
+static READINGS: [Reading; 13] = [
+    // short reads make no short block
+    (TEXT, 1, false, Mode::Netascii, NETASCII, None, &[]),
+    (TEXT, 2, false, Mode::Netascii, NETASCII, None, &[]),
+    (TEXT, 5, false, Mode::Netascii, NETASCII, None, &[]),
+    (TEXT, 1, false, Mode::Octet, OCTET, None, &[]),
+    (TEXT, 2, false, Mode::Octet, OCTET, None, &[]),
+    (TEXT, 5, false, Mode::Octet, OCTET, None, &[]),
+    // a block in octet is one read
+    (
+        b"ABCDEFGH",
+        8,
+        false,
+        Mode::Octet,
+        &[(4, Ok(b"ABCD")), (4, Ok(b"EFGH"))],
+        Some(2),
+        &[],
+    ),
+    (b"AB", 1, true, Mode::Octet, READ_FAILS, None, &[]),
+    (b"AB", 1, true, Mode::Netascii, READ_FAILS, None, &[]),
+    // such a fill fails before anything is read, and the next one gives the text
+    (b"AB", 2, false, Mode::Octet, GREATEST, Some(0), AB),
+    (b"AB", 2, false, Mode::Octet, GREAT, Some(0), AB),
+    (b"AB", 2, false, Mode::Netascii, GREATEST, Some(0), AB),
+    (b"AB", 2, false, Mode::Netascii, GREAT, Some(0), AB),
 ];
 
-fn gives_pieces(rt: &impl Abort, alloc: Global, at_a_time: usize, mode: Mode, pieces: &[&[u8]]) {
-    let mut source = ReadSource::new(Script::new(b"A\nB\rC", at_a_time, AtEnd::Stops), mode);
-    gives_each(rt, alloc, &mut source, 4, pieces);
+fn is_read(rt: &impl Abort, alloc: Global, reading: Reading) {
+    let (text, at_a_time, then_fails, mode, first, reads, next) = reading;
+    let script = Script {
+        text,
+        at_a_time,
+        then_fails,
+        reads: 0,
+    };
+    let mut source = ReadSource::new(script, mode);
+    fills(rt, alloc, &mut source, first, mode.word());
+    let counted = source.get_ref().reads;
+    expect_equal(rt, &counted, &reads.unwrap_or(counted), "reads");
+    fills(rt, alloc, &mut source, next, mode.word());
+    expect(rt, source.into_inner().reads >= counted, "reads to the end");
 }
 
 #[test]
-fn short_reads_make_no_short_block(rt: HostRuntime) {
-    for &(at_a_time, mode, pieces) in &SHORT_READS {
-        gives_pieces(&rt, rt.alloc(), at_a_time, mode, pieces);
+fn texts_are_read(rt: HostRuntime) {
+    for &reading in &READINGS {
+        is_read(&rt, rt.alloc(), reading);
     }
 }
 
-/// Two blocks of four bytes.
-const BLOCKS: [&[u8]; 2] = [b"ABCD", b"EFGH"];
+/// A call, its result, and whether the sink has then committed.
+type Call = (SinkCall, Result<(), StoreFault>, bool);
 
-#[test]
-fn a_block_in_octet_is_one_read(rt: HostRuntime) {
-    let mut source = ReadSource::new(Script::new(b"ABCDEFGH", 8, AtEnd::Stops), Mode::Octet);
-    gives_each(&rt, rt.alloc(), &mut source, 4, &BLOCKS);
-    expect_equal(&rt, &source.into_inner().reads, &2, "reads");
-}
+/// A writer's room, whether it then fails, and whether its first flush does; the calls of a sink over
+/// it, and what is written at the end.
+type Writing = (usize, bool, bool, &'static [Call], &'static [u8]);
 
-fn leaves_the_buffer(rt: &impl Abort, alloc: Global, mode: Mode) {
-    let mut source = ReadSource::new(Script::new(b"AB", 1, AtEnd::Fails), mode);
-    let fault = FileFault::Read;
-    fails(rt, alloc, &mut source, 3, fault, mode.word());
-}
-
-#[test]
-fn a_read_that_fails_leaves_the_buffer(rt: HostRuntime) {
-    leaves_the_buffer(&rt, rt.alloc(), Mode::Octet);
-    leaves_the_buffer(&rt, rt.alloc(), Mode::Netascii);
-}
-
-/// More bytes than can be allocated.
-const GREAT: [(Mode, usize); 4] = [
-    (Mode::Octet, usize::MAX),
-    (Mode::Octet, usize::MAX / 2),
-    (Mode::Netascii, usize::MAX),
-    (Mode::Netascii, usize::MAX / 2),
+static WRITINGS: [Writing; 4] = [
+    // a writer with capacity for two bytes writes two of three
+    (
+        2,
+        true,
+        false,
+        &[(Append(b"ABC"), Err(StoreFault::Io), false)],
+        b"AB",
+    ),
+    (
+        2,
+        false,
+        false,
+        &[(Append(b"ABC"), Err(StoreFault::Io), false)],
+        b"AB",
+    ),
+    // a flush that fails commits nothing, and loses nothing
+    (
+        9,
+        true,
+        true,
+        &[(Commit, Err(StoreFault::Io), false), (Commit, Ok(()), true)],
+        b"",
+    ),
+    (
+        9,
+        true,
+        true,
+        &[
+            (Append(b"ABC"), Ok(()), false),
+            (Commit, Err(StoreFault::Io), false),
+        ],
+        b"ABC",
+    ),
 ];
 
-/// A fill of as many bytes fails before anything is read, and the next one gives the text.
-fn reads_nothing(rt: &impl Abort, alloc: Global, mode: Mode, want: usize) {
-    let mut source = ReadSource::new(Script::new(b"AB", 2, AtEnd::Stops), mode);
-    let fault = FileFault::Memory;
-    fails(rt, alloc, &mut source, want, fault, mode.word());
-    expect_equal(rt, &source.get_ref().reads, &0, "nothing is read");
-    gives_each(rt, alloc, &mut source, 3, &[b"AB"]);
-}
-
-#[test]
-fn a_growth_that_is_refused_reads_nothing(rt: HostRuntime) {
-    for &(mode, want) in &GREAT {
-        reads_nothing(&rt, rt.alloc(), mode, want);
-    }
-}
-
-/// A writer with capacity for two bytes writes two of three.
-fn holds_what_has_room(rt: &impl Abort, alloc: Global, when_full: AtEnd) {
+fn is_written(rt: &impl Abort, alloc: Global, writing: Writing) {
+    let (room, then_fails, flush_fails, rows, written) = writing;
     let mut sink = WriteSink::new(Tape {
         written: Vec::new(alloc),
-        room: 2,
-        when_full,
-        flush_fails: false,
+        room,
+        then_fails,
+        flush_fails,
     });
-    appends(rt, &mut sink, b"ABC", Err(StoreFault::Io), "past the room");
-    let written = sink.get_ref().written.as_slice();
-    expect_bytes(rt, written, b"AB", "what it took");
-}
-
-/// A source, a sink whose writer fails or writes nothing once it is full.
-#[test]
-fn stream_rows(rt: HostRuntime) {
-    gives_line_ends(&rt, rt.alloc());
-    holds_what_has_room(&rt, rt.alloc(), AtEnd::Fails);
-    holds_what_has_room(&rt, rt.alloc(), AtEnd::Stops);
-}
-
-/// A writer with capacity for nine bytes, whose first flush fails.
-fn unflushed(alloc: Global) -> WriteSink<Tape> {
-    WriteSink::new(Tape {
-        written: Vec::new(alloc),
-        room: 9,
-        when_full: AtEnd::Fails,
-        flush_fails: true,
-    })
-}
-
-#[test]
-fn a_flush_that_fails_commits_nothing(rt: HostRuntime) {
-    let rt = &rt;
-    let mut sink = unflushed(rt.alloc());
-    commits(rt, &mut sink, Err(StoreFault::Io), "the flush that fails");
-    expect(rt, !sink.is_committed(), "after the flush that failed");
-    commits(rt, &mut sink, Ok(()), "the flush after it");
-    expect(rt, sink.is_committed(), "after the flush");
-}
-
-#[test]
-fn a_flush_that_fails_loses_nothing(rt: HostRuntime) {
-    let rt = &rt;
-    let mut sink = unflushed(rt.alloc());
-    appends(rt, &mut sink, b"ABC", Ok(()), "the append");
-    commits(rt, &mut sink, Err(StoreFault::Io), "the flush that fails");
+    for &(call, result, is_committed) in rows {
+        let found = (calls(&mut sink, call), sink.is_committed());
+        expect_equal(rt, &found, &(result, is_committed), "a call of a sink");
+    }
+    expect_bytes(rt, sink.get_ref().written.as_slice(), written, "written");
     let tape = sink.into_inner();
-    expect_bytes(rt, tape.written.as_slice(), b"ABC", "in the writer");
+    expect_bytes(rt, tape.written.as_slice(), written, "in the writer");
+}
+
+#[test]
+fn calls_are_written(rt: HostRuntime) {
+    for &writing in &WRITINGS {
+        is_written(&rt, rt.alloc(), writing);
+    }
 }

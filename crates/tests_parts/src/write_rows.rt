@@ -11,7 +11,7 @@ use tftp_ends::{OpenFault, Outcome, Record, Side};
 /// A write request for the file `n` in octet.
 const WRQ_N: &[u8] = b"\x00\x02n\x00octet\x00";
 
-const SCENES: [Scene; 4] = [
+static SCENES: [Scene; 4] = [
     // Blocks of 512 bytes are numbered up to 65,535, and the last is short: at most 33,553,919
     // bytes.
     Scene {
@@ -75,7 +75,7 @@ const SCENES: [Scene; 4] = [
     },
 ];
 
-const TOO_LONG: [(&str, Opening, OpenFault); 1] = [(
+static TOO_LONG: [(&str, Opening, OpenFault); 1] = [(
     "one byte more than the longest file",
     Opening::Put(33_553_920, b"", NOTHING, CONFIG),
     OpenFault::TooLarge,

@@ -28,7 +28,7 @@ type State = (Scene, Endpoint, bool);
 
 /// The states: a waiting reader and writer; a sender after its OACK, its first block and its last;
 /// a receiver with no block, with one block of eight bytes, and one that dallies.
-const STATES: [State; 8] = [
+static STATES: [State; 8] = [
     (
         Scene {
             name: "a waiting reader",
@@ -121,7 +121,7 @@ const STATES: [State; 8] = [
 ];
 
 /// Datagrams that begin no packet, end too early or too late, or have a wrong number, name or mode.
-const MALFORMED: [&[u8]; 13] = [
+static MALFORMED: [&[u8]; 13] = [
     b"",
     b"\x00",
     b"\x00\x07",
@@ -139,12 +139,7 @@ const MALFORMED: [&[u8]; 13] = [
 
 /// The end handles the datagram: it sends ERROR 4, or nothing if the datagram begins as an ERROR,
 /// and closes. A dallying end ignores it.
-fn is_refused(
-    rt: &impl Abort,
-    alloc: Global,
-    (scene, from, dallies): &State,
-    bytes: &'static [u8],
-) {
+fn is_refused(rt: &impl Abort, alloc: Global, (scene, from, dallies): &State, bytes: &[u8]) {
     let mut sent = Vec::new(alloc);
     let mut end = play(rt, alloc, scene, &mut sent);
     let silent = *dallies || bytes.starts_with(b"\x00\x05");
@@ -154,8 +149,7 @@ fn is_refused(
     } else {
         Ok((false, Some(Outcome::Illegal)))
     };
-    let event = Arrives(*from, bytes, answer, then);
-    end.plays(rt, scene.name, &event, &mut sent);
+    end.answers(rt, (scene.name, bytes), &mut sent, *from, answer, then);
     end.finish();
 }
 
