@@ -1,13 +1,11 @@
 -- What the request port decides, from the calls that it makes. For four functions.
 use Rattle.std.proofs.lemmas.Grind.{common_steps}
-use Rattle.std.proofs.Common.{◌≡◌, ◌≢◌, ℕ, Bool, false, List, ◌++◌, Option, Some, None, Result, Ok, Err, IfOk, IsErrOf}
-use Rattle.std.proofs.Common.{OnOk, OnErr, length, take, refl, ap, arith, rules}
-use Rattle.std.specs.Prelude.{if◌then◌else◌}
+use Rattle.std.proofs.Common.{◌≡◌, ◌≢◌, ℕ, Bool, false, List, [], ◌++◌, Option, Some, None, Result, Ok, Err, IfOk, IsErrOf}
+use Rattle.std.proofs.Common.{OnOk, OnErr, ◌+◌, ◌≤◌, append-nil, length, take, refl, ap, arith, rules}
 use Rattle.tftp_wire.specs.declared.mode.Mode.{Mode}
 use Rattle.tftp_wire.specs.declared.packet.Packet.{Packet}
 use Rattle.tftp_wire.specs.declared.packet.Request.{Request}
 use Rattle.tftp_negotiate.specs.declared.known.Kind.{Kind}
-use Rattle.tftp_negotiate.specs.declared.known.Kind.TheVariants as kinds
 use Rattle.tftp_negotiate.specs.declared.limits.Limits.{Limits}
 use Rattle.tftp_negotiate.specs.declared.known.Known.{Known}
 use Rattle.tftp_file.specs.Source.{SourceMeaning}
@@ -21,28 +19,21 @@ use Rattle.tftp_wire.specs.Reading.{has_error_opcode}
 use Rattle.tftp_ends.specs.Step.{error_bytes}
 use Rattle.tftp_ends.specs.declared.endpoint.Endpoint.{Endpoint}
 use Rattle.tftp_ends.specs.declared.error_reply.ErrorReply.{ErrorReply}
-use Rattle.tftp_server.specs.declared.config.Config.{Config}
 use Rattle.tftp_server.specs.declared.fault.ServerFault.{ServerFault}
 use Rattle.tftp_server.specs.declared.opened.Opened.{Opened}
 use Rattle.tftp_server.specs.declared.server.admission.PortAction.{PortAction}
-use Rattle.tftp_server.specs.declared.server.request.Decision.{Decision}
-use Rattle.tftp_server.specs.declared.server.request.Decision.TheVariants.{Refuse, Open}
-use Rattle.tftp_server.specs.Port.{Ask, Ignores, Refuses, asks, begin_reply}
+use Rattle.tftp_server.specs.Port.{Ask, Ignores, IsAnsweredBy, Refuses, asks, begin_reply, unopened_by}
 use Rattle.tftp_server.specs.Request.{Acts, Admits, CarriesOut, Came, Error_reply, A_transfer, IsRequest, AsksToWrite}
-use Rattle.tftp_server.specs.Request.{ask_of, came_to, decided_bytes, left_by}
+use Rattle.tftp_server.specs.Request.{Decides, ask_of, left_by}
+use Rattle.tftp_server.specs.declared.server.reply.Unopened.{Unopened}
+use Rattle.tftp_server.specs.declared.server.reply.Unopened.TheVariants as unopened
 use Rattle.tftp_server.specs.State.{TransferState, ServerState, IsRepeated, with_new}
 use Rattle.tftp_store.specs.Store.{StoreMeaning, Begins}
 
--- if no draft is begun, nothing has been sent
-pub refused_bytes : {F D E : Type 0} (reply : ErrorReply) (P : Type 0) (before sent all cut : List ℕ) (start : ℕ)
-    (r : Result (Decision F D) E) → start ≡ length before → all ≡ before ++ sent → cut ≡ take start all →
-    IfOk r (λ d. (d ≡ Refuse reply) × P) → IfOk r (λ d. cut ≡ before ++ decided_bytes d)
-refused_bytes reply P before sent all cut start r s a c h = grind (arith, common_steps)
-
 -- what was appended before a fault is cut off again
-pub cut_on_err : {T E : Type 0} (before sent all cut : List ℕ) (start : ℕ) (r : Result T E) → start ≡ length before →
-    all ≡ before ++ sent → cut ≡ take start all → OnErr r (cut ≡ before)
-cut_on_err before sent all cut start r s a c = grind (arith, common_steps)
+pub cut_off : (before sent all cut : List ℕ) (start : ℕ) → start ≡ length before → all ≡ before ++ sent →
+    cut ≡ take start all → cut ≡ before ++ []
+cut_off before sent all cut start s a c = grind (arith, common_steps)
 
 -- whether a datagram repeats a request, in the server that this one is
 pub repeats_in : {S F D : Type 0} (old seen : ServerState S F D) (from : Endpoint) (repeated : Bool)
@@ -87,22 +78,17 @@ module _ {S F D : Type 0} (meaning : StoreMeaning S D) (sources : SourceMeaning 
       AsksToWrite meaning sources old from bytes path mode agreed (A_transfer held store)
   asks_to_write path mode agreed store draft end request held begins begun opens copies is = search rules
 
-  -- or none was, and an ERROR is sent
-  pub refused_to_write : {E : Type 0} (path : List ℕ) (mode : Mode) (agreed : List Known) (store : S)
-      (fault : StoreFault) (r : Result (Decision F D) E) →
+  -- or none was: an ERROR is sent, or memory ran out and nothing has changed
+  pub refused_to_write : (path : List ℕ) (mode : Mode) (agreed : List Known) (store : S) (fault : StoreFault)
+      (why : Unopened) →
       Begins {K = D} meaning.drafted (meaning.stored old.store) (meaning.stored store) path old.config.overwrite
       (Err fault) →
       meaning.may_refuse_begin old.store path old.config.overwrite fault →
       meaning.begun path old.config.overwrite old.store store (Err fault) →
-      IfOk r (λ d. (d ≡ Refuse (begin_reply fault)) × (fault ≢ Memory)) →
-      IfOk r (λ d. AsksToWrite meaning sources old from bytes path mode agreed (came_to d store))
-  refused_to_write path mode agreed store fault r begins may begun h = search rules
-
-  -- if no draft was begun for lack of memory, nothing has changed
-  pub nothing_begun : {T E : Type 0} (store : S) (fault : StoreFault) (was cut : List ℕ) (r : Result T E) →
-      (IsErrOf {T = D} (Err fault) Memory → store ≡ old.store) → OnErr r (fault ≡ Memory) → OnErr r (cut ≡ was) →
-      OnErr r ((record old { store = store } ≡ old) × (cut ≡ was))
-  nothing_begun store fault was cut r same why back = search rules
+      (IsErrOf {T = D} (Err fault) Memory → store ≡ old.store) → why ≡ unopened_by fault (begin_reply fault) →
+      Decides {F = F} (Err why) store (λ came. AsksToWrite meaning sources old from bytes path mode agreed came)
+      (record old { store = store } ≡ old)
+  refused_to_write path mode agreed store fault why begins may begun same is = search rules
 
   -- an ERROR is sent
   pub refuses : (tid : ℕ) (ask : Ask) (reply : ErrorReply) (before after : List ℕ) (r : Result Opened ServerFault) →
@@ -121,35 +107,52 @@ module _ {S F D : Type 0} (meaning : StoreMeaning S D) (sources : SourceMeaning 
   )
   refuses tid ask reply before after (Err fault) is opened_is ok = tt
 
--- ---- a write, for which the table reserved capacity first
-module _ {S F D : Type 0} (meaning : StoreMeaning S D) (sources : SourceMeaning F) (config : Config) (store : S)
-    (held none : List (ℕ × TransferState F D)) (from : Endpoint) (bytes : List ℕ) (path : List ℕ) (mode : Mode)
-    (agreed : List Known) (after : ServerState S F D)
-    (config' : Config) (store' : S) (others : List (ℕ × TransferState F D)) (table : List (ℕ × TransferState F D)) where
-  abbrev before_write : List (ℕ × TransferState F D) → ServerState S F D
-  before_write transfers = record { config = config; store = store; held = transfers }
+-- if no draft is begun, the ERROR has its capacity
+pub in_room : {T U E : Type 0} (why : Unopened) (was mid : List ℕ) (most capacity : ℕ) (r : Result U E) →
+    (◌≢◌ {A = Result T Unopened} (Err why) (Err unopened.Memory) → length was + most ≤ capacity) → mid ≡ was ++ [] →
+    (length mid + most ≤ capacity → OnErr r (why ≡ unopened.Memory)) → OnErr r (why ≡ unopened.Memory)
+in_room unopened.Memory was mid most capacity (Ok done) room none refused = tt
+in_room unopened.Memory was mid most capacity (Err fault) room none refused = refl
+in_room (unopened.Refused reply) was mid most capacity r room none refused =
+    refused (rw (none, append-nil) (room (λ e. cc)))
 
-  abbrev after_write : List (ℕ × TransferState F D) → ServerState S F D
-  after_write transfers = record { config = config'; store = store'; held = transfers }
+-- ---- a write, for which the table was taken out and put back
+module _ {S F D : Type 0} (meaning : StoreMeaning S D) (sources : SourceMeaning F)
+    (old taken after new : ServerState S F D) (from : Endpoint) (bytes path : List ℕ) (mode : Mode)
+    (agreed : List Known) (tid : ℕ) (none table : List (ℕ × TransferState F D))
+    (take : taken ≡ record old { held = none }) (rest : after ≡ record taken { store = after.store })
+    (put : new ≡ record after { held = table }) where
+  abbrev Written : List ℕ → List ℕ → Opened → Type 0
+  Written was out opened =
+      (came : Came S F D) × (sent : List ℕ) × AsksToWrite meaning sources old from bytes path mode agreed came
+      × (out ≡ was ++ sent) × (record { new = new; opened = opened; sent = sent } ≡ left_by came old from tid)
 
-  module _ (seen : after_write others ≡ after) (rest : after ≡ record (before_write none) { store = after.store }) where
-    abbrev Written : ℕ → List ℕ → List ℕ → Opened → Type 0
-    Written tid was out opened =
-        (came : Came S F D) × (sent : List ℕ) × AsksToWrite meaning sources (before_write held) from bytes path mode
-        agreed came
-        × (out ≡ was ++ sent) × (record { new = after_write table; opened = opened; sent = sent } ≡ left_by came
-        (before_write held) from tid)
+  pub write_opened : (was out : List ℕ) (transfer : TransferState F D) → table ≡ with_new tid transfer old.held →
+      AsksToWrite meaning sources taken from bytes path mode agreed (A_transfer transfer after.store) →
+      out ≡ was ++ transfer.end.position.last_sent → Written was out (record { tid = Some tid; to = Some from })
+  write_opened was out transfer filled asks sent = search rules
 
-    pub write_opened : (tid : ℕ) (was out : List ℕ) (d : Decision F D) (transfer : TransferState F D) →
-        d ≡ Open transfer → table ≡ with_new tid transfer held →
-        AsksToWrite meaning sources (before_write none) from bytes path mode agreed (came_to d after.store) →
-        out ≡ was ++ decided_bytes d →
-        Written tid was out (record { tid = Some tid; to = Some from })
-    write_opened tid was out d transfer is put asks sent = search rules
+  refused_once : (was mid out : List ℕ) (reply : ErrorReply) (opened : Opened) → table ≡ old.held →
+      AsksToWrite meaning sources taken from bytes path mode agreed (Error_reply reply after.store) →
+      mid ≡ was ++ [] → opened ≡ record { tid = None; to = Some from } → out ≡ mid ++ error_bytes reply →
+      Written was out opened
+  refused_once was mid out reply opened back asks sent opened_is ok = search rules
 
-    pub write_refused : (tid : ℕ) (was mid out : List ℕ) (d : Decision F D) (reply : ErrorReply) (opened : Opened) →
-        d ≡ Refuse reply → table ≡ held →
-        AsksToWrite meaning sources (before_write none) from bytes path mode agreed (came_to d after.store) →
-        mid ≡ was ++ decided_bytes d →
-        opened ≡ record { tid = None; to = Some from } → out ≡ mid ++ error_bytes reply → Written tid was out opened
-    write_refused tid was mid out d reply opened is back asks sent opened_is ok = search rules
+  module _ {E : Type 0} (was mid out : List ℕ) (back : table ≡ old.held) (none_sent : mid ≡ was ++ []) where
+    pub write_refused : (why : Unopened) (r : Result Opened E) →
+        Decides {F = F} (Err why) after.store
+        (λ came. AsksToWrite meaning sources taken from bytes path mode agreed came) (after ≡ taken) →
+        IfOk r (λ opened. opened ≡ record { tid = None; to = Some from }) →
+        OnOk r (IsAnsweredBy why (λ reply. out ≡ mid ++ error_bytes reply)) → IfOk r (λ opened. Written was out opened)
+    write_refused (unopened.Refused reply) (Ok opened) asks opened_is ok =
+        refused_once was mid out reply opened back asks none_sent opened_is ok
+    write_refused unopened.Memory (Ok opened) asks opened_is ok = absurd ok
+    write_refused why (Err fault) asks opened_is ok = tt
+
+    pub write_failed : (why : Unopened) (r : Result Opened E) →
+        Decides {F = F} (Err why) after.store
+        (λ came. AsksToWrite meaning sources taken from bytes path mode agreed came) (after ≡ taken) →
+        OnErr r (why ≡ unopened.Memory) → OnErr r (out ≡ mid) → OnErr r ((new ≡ old) × (out ≡ was))
+    write_failed why (Ok opened) asks memory same = tt
+    write_failed unopened.Memory (Err fault) asks memory same = search rules
+    write_failed (unopened.Refused reply) (Err fault) asks memory same = absurd (cc)

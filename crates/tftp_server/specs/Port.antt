@@ -17,6 +17,7 @@ use Rattle.tftp_negotiate.specs.declared.refusal.Refusal.TheVariants as refusals
 use Rattle.tftp_file.specs.Path.{path_of_name}
 use Rattle.tftp_file.specs.declared.fault.StoreFault.{StoreFault}
 use Rattle.tftp_file.specs.declared.fault.StoreFault.TheVariants.{Missing, Exists, Full}
+use Rattle.tftp_file.specs.declared.fault.StoreFault.TheVariants as store_faults
 use Rattle.tftp_file.specs.declared.path.PathFault.{PathFault}
 use Rattle.tftp_ends.specs.declared.error_reply.ErrorReply.{ErrorReply}
 use Rattle.tftp_ends.specs.declared.error_reply.ErrorReply.TheVariants.{FileTooLarge, ServerBusy}
@@ -27,7 +28,10 @@ use Rattle.tftp_ends.specs.declared.error_reply.ErrorReply.TheVariants.{FileExis
 use Rattle.tftp_ends.specs.declared.error_reply.ErrorReply.TheVariants.{FileChanged}
 use Rattle.tftp_ends.specs.declared.fault.OpenFault.{OpenFault}
 use Rattle.tftp_ends.specs.declared.fault.OpenFault.TheVariants.{TooLarge}
+use Rattle.tftp_ends.specs.declared.fault.OpenFault.TheVariants as open_faults
 use Rattle.tftp_wire.specs.Reading.{has_error_opcode}
+use Rattle.tftp_server.specs.declared.server.reply.Unopened.{Unopened}
+use Rattle.tftp_server.specs.declared.server.reply.Unopened.TheVariants as unopened
 
 -- what the request port does before it asks its store
 pub data Ask : Type 0 where
@@ -66,6 +70,21 @@ abbrev pub begin_reply : StoreFault → ErrorReply
 begin_reply Exists = FileExists
 begin_reply Full = DiskFull
 begin_reply _ = AccessViolation
+
+-- why no transfer opens, by the fault of the store: out of memory, or else this ERROR is sent
+abbrev pub unopened_by : StoreFault → ErrorReply → Unopened
+unopened_by store_faults.Memory reply = unopened.Memory
+unopened_by _ reply = unopened.Refused reply
+
+-- the same, by the fault of the end that would serve a file
+abbrev pub unserved_by : OpenFault → Unopened
+unserved_by open_faults.Memory = unopened.Memory
+unserved_by fault = unopened.Refused (serve_reply fault)
+
+-- an ERROR is sent, and it has this property
+abbrev pub IsAnsweredBy : Unopened → (ErrorReply → Type 0) → Type 0
+IsAnsweredBy (unopened.Refused reply) Has = Has reply
+IsAnsweredBy unopened.Memory Has = ⊥
 
 -- the ERROR for refused options
 abbrev pub accept_reply : Refusal → ErrorReply

@@ -28,8 +28,8 @@ use Rattle.tftp_server.specs.declared.opened.Opened.{Opened}
 use Rattle.tftp_server.specs.declared.server.admission.Occupancy.{Occupancy}
 use Rattle.tftp_server.specs.declared.server.admission.PortAction.{PortAction}
 use Rattle.tftp_server.specs.declared.server.admission.PortAction.TheVariants as actions
-use Rattle.tftp_server.specs.declared.server.request.Decision.{Decision}
-use Rattle.tftp_server.specs.declared.server.request.Decision.TheVariants.{Refuse, Open}
+use Rattle.tftp_server.specs.declared.server.reply.Unopened.{Unopened}
+use Rattle.tftp_server.specs.declared.server.reply.Unopened.TheVariants as unopened
 use Rattle.tftp_store.specs.declared.store.Opening.{Opening}
 use Rattle.tftp_server.specs.State.{TransferState, ServerState, IsRepeated, with_new}
 use Rattle.tftp_server.specs.Port.{Ask, Ignores, Refuses, Reads, Writes, Service, Refused, Sends}
@@ -204,12 +204,14 @@ ask_of (actions.Refuse reply) = Refuses reply
 ask_of (actions.Read read) = Reads read.path read.mode read.options
 ask_of (actions.Write write) = Writes write.path write.mode write.agreed
 
--- the result of a decision
-abbrev pub came_to : {S F D : Type 0} → Decision F D → S → Came S F D
-came_to (Refuse reply) store = Error_reply reply store
-came_to (Open held) store = A_transfer held store
+-- the transfer that opens, or why none does: what comes of the request, or why memory ran out
+abbrev pub Decides : {S F D : Type 0} → Result (TransferState F D) Unopened → S
+    → (Came S F D → Type 0) → Type 0 → Type 0
+Decides (Ok held) store Comes Lacks = Comes (A_transfer held store)
+Decides (Err (unopened.Refused reply)) store Comes Lacks = Comes (Error_reply reply store)
+Decides (Err unopened.Memory) store Comes Lacks = Lacks
 
--- what was sent before a decision
-abbrev pub decided_bytes : {F D : Type 0} → Decision F D → List ℕ
-decided_bytes (Refuse reply) = []
-decided_bytes (Open held) = held.end.position.last_sent
+-- what has been sent by then
+abbrev pub decided_bytes : {F D : Type 0} → Result (TransferState F D) Unopened → List ℕ
+decided_bytes (Ok held) = held.end.position.last_sent
+decided_bytes (Err why) = []

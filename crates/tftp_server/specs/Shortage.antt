@@ -18,6 +18,8 @@ use Rattle.tftp_ends.specs.Shortage.{HasNoRoom, LacksMemory}
 use Rattle.tftp_ends.specs.Step.{error_bytes}
 use Rattle.tftp_store.specs.declared.store.Opening.{Opening}
 use Rattle.tftp_store.specs.Store.{StoreMeaning, Opens, RefusedIf}
+use Rattle.tftp_server.specs.declared.server.reply.Unopened.{Unopened}
+use Rattle.tftp_server.specs.declared.server.reply.Unopened.TheVariants as unopened
 use Rattle.tftp_server.specs.Draft.{files_in, drafting_sink}
 use Rattle.tftp_server.specs.Port.{Ask, Ignores, Refuses, Reads, Writes, Service, Refused, by_file}
 use Rattle.tftp_server.specs.Request.{Admits, IsRequest, opened_length}
@@ -84,6 +86,11 @@ module _ (capacity used : ℕ) where
   abbrev pub FileLacksMemory : {F : Type 0} → Service → Result (Opening F) StoreFault → Type 0
   FileLacksMemory service (Err Memory) = Unit {0}
   FileLacksMemory service file = ServiceLacksMemory service
+
+  -- no transfer opens for lack of memory, or `out` has no room for the ERROR
+  abbrev pub LacksMemoryFor : Unopened → Type 0
+  LacksMemoryFor unopened.Memory = Unit {0}
+  LacksMemoryFor (unopened.Refused reply) = HasNoRoom capacity used (length (error_bytes reply))
 
   module _ {S F D : Type 0} (meaning : StoreMeaning S D) (sources : SourceMeaning F)
       (old : ServerState S F D) where

@@ -117,6 +117,28 @@ impl<S: Store> Server<S> {
             → IsSome (asked_path admission.entry.ask) }
         ensures err { OnErr result (self.new ≡ self.old) }
     {
+        match self.asked(admission, tid) {
+            Ok((path, request)) => {
+                let transfer = Transfer::new(end, files, path, request);
+                let Ok(()) = self.table.insert(tid, transfer) else {
+                    return Err(ServerFault::Memory);
+                };
+                Ok(())
+            }
+            Err(fault) => Err(fault),
+        }
+    }
+
+    /// The path of an admitted request, and a copy of its datagram, for an unused identifier.
+    fn asked(&self, admission: Admission<'_>, tid: u16) -> Result<(Path, Vec<u8>), ServerFault>
+        ensures path { IfOk result (λ asked. asked_path admission.entry.ask ≡ Some asked.0) }
+        ensures request { IfOk result (λ asked. asked.1.items ≡ admission.entry.bytes) }
+        ensures in_use { IsErrOf result ServerFault.TidInUse ↔ IsSome (at tid self.now.held) }
+        ensures no_such_tid { IsErrOf result ServerFault.NoSuchTid
+            → asked_path admission.entry.ask ≡ None }
+        ensures memory { IsErrOf result ServerFault.Memory
+            → IsSome (asked_path admission.entry.ask) }
+    {
         if self.table.contains(tid) {
             return Err(ServerFault::TidInUse);
         }
@@ -127,13 +149,7 @@ impl<S: Store> Server<S> {
         let Ok(request) = Vec::from_slice(self.alloc, incoming.bytes) else {
             return Err(ServerFault::Memory);
         };
-        match self
-            .table
-            .insert(tid, Transfer::new(end, files, path, request))
-        {
-            Ok(()) => Ok(()),
-            Err(_) => Err(ServerFault::Memory),
-        }
+        Ok((path, request))
     }
 
     /// How many timeouts the transfer at the identifier has had since its opening or its last

@@ -2,16 +2,25 @@
 
 ghost use Rattle.std.specs.Prelude.{◌≡◌, ◌≢◌, ◌+◌, ◌++◌, ◌≤◌, IfOk, IfErr, OnOk, OnErr, None};
 ghost use Rattle.std.specs.Prelude.{Some, length, vec_capacity, vec_len};
-ghost use Rattle.tftp_ends.specs.Shortage.{HasNoRoom};
 ghost use Rattle.tftp_ends.specs.Step.{error_bytes};
-ghost use Rattle.tftp_server.specs.Port.{accept_reply, begin_reply, open_reply, serve_reply};
+ghost use Rattle.tftp_server.specs.Port.{accept_reply, begin_reply, open_reply, unopened_by};
+ghost use Rattle.tftp_server.specs.Port.{IsAnsweredBy, unserved_by};
+ghost use Rattle.tftp_server.specs.Shortage.{LacksMemoryFor};
 
 use crate::fault::ServerFault;
 use crate::opened::Opened;
-use crate::server::request::Decision;
 use tftp_ends::{Endpoint, ErrorReply, MAX_ERROR, OpenFault};
 use tftp_file::StoreFault;
 use tftp_negotiate::Refusal;
+
+/// Why no transfer opens for a request that is not ignored.
+#[derive(Clone, Copy)]
+pub(crate) enum Unopened {
+    /// An ERROR is sent from the request port.
+    Refused(ErrorReply),
+    /// Out of memory.
+    Memory,
+}
 
 /// The ERROR for refused options.
 pub(crate) fn accept_reply(refusal: Refusal) -> ErrorReply
@@ -23,68 +32,66 @@ pub(crate) fn accept_reply(refusal: Refusal) -> ErrorReply
     }
 }
 
-/// The ERROR for a file that could not be opened; `Memory` when out of memory.
-pub(crate) fn open_refused<F, D>(fault: StoreFault) -> Result<Decision<F, D>, ServerFault>
-    ensures refused { IfOk result (λ decision. (decision ≡ Decision.Refuse (open_reply fault))
-        × (fault ≢ StoreFault.Memory)) }
-    ensures memory { IfErr result (λ fault. fault ≡ ServerFault.Memory) }
-    ensures why { OnErr result (fault ≡ StoreFault.Memory) }
+/// Why no transfer opens for a file that could not be opened.
+pub(crate) fn open_refused(fault: StoreFault) -> Unopened
+    ensures { result ≡ unopened_by fault (open_reply fault) }
 {
     match fault {
-        StoreFault::Missing => Ok(Decision::Refuse(ErrorReply::FileNotFound)),
-        StoreFault::Exists => Ok(Decision::Refuse(ErrorReply::AccessViolation)),
-        StoreFault::Full => Ok(Decision::Refuse(ErrorReply::AccessViolation)),
-        StoreFault::Io => Ok(Decision::Refuse(ErrorReply::AccessViolation)),
-        StoreFault::Memory => Err(ServerFault::Memory),
+        StoreFault::Missing => Unopened::Refused(ErrorReply::FileNotFound),
+        StoreFault::Exists => Unopened::Refused(ErrorReply::AccessViolation),
+        StoreFault::Full => Unopened::Refused(ErrorReply::AccessViolation),
+        StoreFault::Io => Unopened::Refused(ErrorReply::AccessViolation),
+        StoreFault::Memory => Unopened::Memory,
     }
 }
 
-/// The ERROR for a file that was opened but is not served; `Memory` when out of memory.
-pub(crate) fn serve_refused<F, D>(fault: OpenFault) -> Result<Decision<F, D>, ServerFault>
+/// Why no transfer opens for a file that was opened but is not served.
+pub(crate) fn serve_refused(fault: OpenFault) -> Unopened
     requires { fault ≢ OpenFault.BadRequest }
-    ensures refused { IfOk result (λ decision. (decision ≡ Decision.Refuse (serve_reply fault))
-        × (fault ≢ OpenFault.Memory)) }
-    ensures memory { IfErr result (λ fault. fault ≡ ServerFault.Memory) }
-    ensures why { OnErr result (fault ≡ OpenFault.Memory) }
+    ensures { result ≡ unserved_by fault }
 {
     match fault {
-        OpenFault::TooLarge => Ok(Decision::Refuse(ErrorReply::FileTooLarge)),
-        OpenFault::SourceFault => Ok(Decision::Refuse(ErrorReply::FileChanged)),
-        OpenFault::Memory => Err(ServerFault::Memory),
+        OpenFault::TooLarge => Unopened::Refused(ErrorReply::FileTooLarge),
+        OpenFault::SourceFault => Unopened::Refused(ErrorReply::FileChanged),
+        OpenFault::Memory => Unopened::Memory,
         OpenFault::BadRequest => unreachable!(),
     }
 }
 
-/// The ERROR for a draft that could not be begun; `Memory` when out of memory.
-pub(crate) fn begin_refused<F, D>(fault: StoreFault) -> Result<Decision<F, D>, ServerFault>
-    ensures refused { IfOk result (λ decision. (decision ≡ Decision.Refuse (begin_reply fault))
-        × (fault ≢ StoreFault.Memory)) }
-    ensures memory { IfErr result (λ fault. fault ≡ ServerFault.Memory) }
-    ensures why { OnErr result (fault ≡ StoreFault.Memory) }
+/// Why no transfer opens for a draft that could not be begun.
+pub(crate) fn begin_refused(fault: StoreFault) -> Unopened
+    ensures { result ≡ unopened_by fault (begin_reply fault) }
 {
     match fault {
-        StoreFault::Exists => Ok(Decision::Refuse(ErrorReply::FileExists)),
-        StoreFault::Full => Ok(Decision::Refuse(ErrorReply::DiskFull)),
-        StoreFault::Missing => Ok(Decision::Refuse(ErrorReply::AccessViolation)),
-        StoreFault::Io => Ok(Decision::Refuse(ErrorReply::AccessViolation)),
-        StoreFault::Memory => Err(ServerFault::Memory),
+        StoreFault::Exists => Unopened::Refused(ErrorReply::FileExists),
+        StoreFault::Full => Unopened::Refused(ErrorReply::DiskFull),
+        StoreFault::Missing => Unopened::Refused(ErrorReply::AccessViolation),
+        StoreFault::Io => Unopened::Refused(ErrorReply::AccessViolation),
+        StoreFault::Memory => Unopened::Memory,
     }
 }
 
-/// Appends an ERROR, to be sent from the request port.
+/// Appends the ERROR, to be sent from the request port. `Memory` is its one fault, which capacity
+/// for an ERROR leaves to a transfer that was out of memory.
 pub(crate) fn refuse(
-    reply: ErrorReply,
+    unopened: Unopened,
     from: Endpoint,
     out: &mut Vec<u8>,
 ) -> Result<Opened, ServerFault>
     ensures opened { IfOk result (λ opened. opened ≡ record { tid = None; to = Some from }) }
-    ensures ok { OnOk result (out.new.items ≡ out.old.items ++ error_bytes reply) }
+    ensures ok { OnOk result (IsAnsweredBy unopened (λ reply. out.new.items
+        ≡ out.old.items ++ error_bytes reply)) }
     ensures memory { IfErr result (λ fault. fault ≡ ServerFault.Memory) }
-    ensures why { OnErr result (HasNoRoom (vec_capacity out.old) (vec_len out.old)
-        (length (error_bytes reply))) }
+    ensures why { OnErr result (LacksMemoryFor (vec_capacity out.old) (vec_len out.old)
+        unopened) }
+    ensures room { length out.old.items + MAX_ERROR ≤ vec_capacity out.old
+        → OnErr result (unopened ≡ Unopened.Memory) }
     ensures capacity { vec_capacity out.old ≤ vec_capacity out.new }
     ensures err { OnErr result (out.new.items ≡ out.old.items) }
 {
+    let Unopened::Refused(reply) = unopened else {
+        return Err(ServerFault::Memory);
+    };
     let Ok(()) = reply.append_to(out) else {
         return Err(ServerFault::Memory);
     };
@@ -92,20 +99,4 @@ pub(crate) fn refuse(
         tid: None,
         to: Some(from),
     })
-}
-
-/// As [`refuse`], into reserved capacity.
-pub(crate) fn refuse_in_room(reply: ErrorReply, from: Endpoint, out: &mut Vec<u8>) -> Opened
-    requires { length out.old.items + MAX_ERROR ≤ vec_capacity out.old }
-    ensures opened { result ≡ record { tid = None; to = Some from } }
-    ensures bytes { out.new.items ≡ out.old.items ++ error_bytes reply }
-    ensures capacity { vec_capacity out.old ≤ vec_capacity out.new }
-{
-    let Ok(()) = reply.append_to(out) else {
-        unreachable!()
-    };
-    Opened {
-        tid: None,
-        to: Some(from),
-    }
 }

@@ -1,17 +1,17 @@
 //! A datagram to the request port, from its admission to the transfer that opens.
 
 ghost use Rattle.std.specs.Prelude.{◌≡◌, ◌≢◌, ◌↔◌, ◌⊎◌, ◌++◌, ◌+◌, ◌≤◌, vec_capacity, vec_len};
-ghost use Rattle.std.specs.Prelude.{length, Bool, List, ℕ, None, Ok, Option};
+ghost use Rattle.std.specs.Prelude.{length, Bool, List, ℕ, None, Ok, Err, Option};
 ghost use Rattle.std.specs.Prelude.{IfOk, IfErr, IsErrOf, IsSome, OnOk, OnErr};
 ghost use Rattle.tftp_wire.specs.declared.packet.Packet.{Packet};
 ghost use Rattle.tftp_ends.specs.Action.{Decodes};
 ghost use Rattle.tftp_ends.specs.Opening.{serving_write};
 ghost use Rattle.tftp_server.specs.State.{IsRepeated, at};
-ghost use Rattle.tftp_server.specs.Port.{Ask, Ignores, asks, asks_store, by_file, by_length};
+ghost use Rattle.tftp_server.specs.Port.{Ask, Ignores, asks, asks_store, by_file};
 ghost use Rattle.tftp_server.specs.Port.{granted_size};
 ghost use Rattle.tftp_server.specs.Request.{Acts, Admits, AdmitsBeside, AsksToRead, AsksToWrite};
 ghost use Rattle.tftp_server.specs.Request.{Came};
-ghost use Rattle.tftp_server.specs.Request.{CarriesOut, RequestStep, Sent, ask_of, came_to};
+ghost use Rattle.tftp_server.specs.Request.{CarriesOut, Decides, RequestStep, Sent, ask_of};
 ghost use Rattle.tftp_server.specs.Request.{decided_bytes, left_by};
 ghost use Rattle.tftp_server.specs.Shortage.{AskLacksMemory, NamesAPath, ReadLacksMemory};
 ghost use Rattle.tftp_server.specs.Shortage.{RequestLacksMemory, ServiceLacksMemory};
@@ -24,25 +24,15 @@ use crate::server::admission::{
 };
 use crate::server::port::by_packet;
 use crate::server::reply::{
-    accept_reply, begin_refused, open_refused, refuse, refuse_in_room, serve_refused,
+    Unopened, accept_reply, begin_refused, open_refused, refuse, serve_refused,
 };
 use crate::table::Table;
 use crate::transfer::Transfer;
 use std::alloc::{AllocError, Global};
 use std::mem;
-use tftp_ends::{End, Endpoint, ErrorReply, MAX_ERROR, ReadService, decode_packet};
+use tftp_ends::{End, Endpoint, MAX_ERROR, ReadService, decode_packet};
 use tftp_file::Files;
-use tftp_negotiate::Agreed;
 use tftp_store::{Opening, Store};
-
-/// The decision for a request.
-#[derive(Drop)]
-pub(crate) enum Decision<F, D> {
-    /// An ERROR is sent from the request port.
-    Refuse(ErrorReply),
-    /// A transfer opens; its first datagram has been appended.
-    Open(Transfer<F, D>),
-}
 
 impl<S: Store> Server<S> {
     /// Handles a datagram from `from` to the request port: [`Server::admit`], then
@@ -208,7 +198,7 @@ impl<S: Store> Server<S> {
                 tid: None,
                 to: None,
             }),
-            PortAction::Refuse(reply) => refuse(reply, incoming.from, out),
+            PortAction::Refuse(reply) => refuse(Unopened::Refused(reply), incoming.from, out),
             PortAction::Read(read) => self.read_from(incoming, tid, read, out),
             PortAction::Write(write) => self.write_from(incoming, tid, write, out),
         }
@@ -243,8 +233,7 @@ impl<S: Store> Server<S> {
         let start = out.len();
         let from = incoming.from;
         match self.read(incoming, read, out) {
-            Ok(Decision::Refuse(reply)) => refuse(reply, from, out),
-            Ok(Decision::Open(transfer)) => {
+            Ok(transfer) => {
                 let Ok(()) = self.table.insert(tid, transfer) else {
                     out.truncate(start);
                     return Err(ServerFault::Memory);
@@ -254,7 +243,7 @@ impl<S: Store> Server<S> {
                     to: Some(from),
                 })
             }
-            Err(_) => Err(ServerFault::Memory),
+            Err(unopened) => refuse(unopened, from, out),
         }
     }
 
@@ -264,92 +253,61 @@ impl<S: Store> Server<S> {
         incoming: Incoming<'_>,
         read: ReadRequest<'_>,
         out: &mut Vec<u8>,
-    ) -> Result<Decision<S::Source, S::Draft>, ServerFault>
-        ensures asks { IfOk result (λ decision. AsksToRead S.meaning S.Source.meaning
+    ) -> Result<Transfer<S::Source, S::Draft>, Unopened>
+        ensures asks { Decides result self.now.store (λ came. AsksToRead S.meaning S.Source.meaning
             self.now incoming.entry.from incoming.entry.bytes.now read.entry.path read.entry.mode
-            read.entry.options (came_to decision self.now.store)) }
-        ensures sent { IfOk result (λ decision. out.new.items ≡ out.old.items ++ decided_bytes
-            decision) }
-        ensures memory { IfErr result (λ fault. fault ≡ ServerFault.Memory) }
-        ensures why { OnErr result (ReadLacksMemory (vec_capacity out.old) (vec_len out.old)
+            read.entry.options came) (ReadLacksMemory (vec_capacity out.old) (vec_len out.old)
             S.meaning S.Source.meaning self.now read.entry.path read.entry.mode
             read.entry.options) }
+        ensures sent { out.new.items ≡ out.old.items ++ decided_bytes result }
         ensures capacity { vec_capacity out.old ≤ vec_capacity out.new }
-        ensures err { OnErr result (out.new.items ≡ out.old.items) }
     {
         match self.store.open(self.alloc, &read.path, read.mode) {
             Ok(file) => self.serve(incoming, read, file, out),
-            Err(fault) => open_refused(fault),
+            Err(fault) => Err(open_refused(fault)),
         }
     }
 
-    /// Answers the options of a read whose file was opened.
+    /// Serves a file that was opened: answers the options of the read, and opens a transfer if its
+    /// blocks can be numbered and, without options, the first block can be read.
     fn serve(
         &self,
         incoming: Incoming<'_>,
         read: ReadRequest<'_>,
         file: Opening<S::Source>,
         out: &mut Vec<u8>,
-    ) -> Result<Decision<S::Source, S::Draft>, ServerFault>
-        ensures sends { IfOk result (λ decision. Sent S.meaning S.Source.meaning
+    ) -> Result<Transfer<S::Source, S::Draft>, Unopened>
+        ensures sends { Decides result self.now.store (λ came. Sent S.meaning S.Source.meaning
             self.now incoming.entry.from incoming.entry.bytes.now (by_file self.now.config.limits
-            read.entry.path read.entry.mode read.entry.options (Ok file.length)) (Ok file)
-            (came_to decision self.now.store)) }
-        ensures sent { IfOk result (λ decision. out.new.items ≡ out.old.items ++ decided_bytes
-            decision) }
-        ensures memory { IfErr result (λ fault. fault ≡ ServerFault.Memory) }
-        ensures why { OnErr result (ServiceLacksMemory (vec_capacity out.old) (vec_len out.old)
+            read.entry.path read.entry.mode read.entry.options (Ok file.length)) (Ok file) came)
+            (ServiceLacksMemory (vec_capacity out.old) (vec_len out.old)
             (by_file self.now.config.limits read.entry.path read.entry.mode read.entry.options
             (Ok file.length))) }
+        ensures sent { out.new.items ≡ out.old.items ++ decided_bytes result }
         ensures capacity { vec_capacity out.old ≤ vec_capacity out.new }
-        ensures err { OnErr result (out.new.items ≡ out.old.items) }
-    {
-        match read.agree(file.length, &self.config.limits) {
-            Ok(agreed) => self.open_read(incoming, read, &agreed, file, out),
-            Err(refusal) => Ok(Decision::Refuse(accept_reply(refusal))),
-        }
-    }
-
-    /// Opens a read transfer of the file with these options, if its blocks can be numbered and,
-    /// without options, the first block can be read.
-    fn open_read(
-        &self,
-        incoming: Incoming<'_>,
-        read: ReadRequest<'_>,
-        agreed: &Agreed,
-        file: Opening<S::Source>,
-        out: &mut Vec<u8>,
-    ) -> Result<Decision<S::Source, S::Draft>, ServerFault>
-        ensures opens { IfOk result (λ decision. Sent S.meaning S.Source.meaning
-            self.now incoming.entry.from incoming.entry.bytes.now (by_length read.entry.path
-            read.entry.mode file.length (Ok agreed.now)) (Ok file)
-            (came_to decision self.now.store)) }
-        ensures sent { IfOk result (λ decision. out.new.items ≡ out.old.items ++ decided_bytes
-            decision) }
-        ensures memory { IfErr result (λ fault. fault ≡ ServerFault.Memory) }
-        ensures why { OnErr result (ServiceLacksMemory (vec_capacity out.old) (vec_len out.old)
-            (by_length read.entry.path read.entry.mode file.length (Ok agreed.now))) }
-        ensures capacity { vec_capacity out.old ≤ vec_capacity out.new }
-        ensures err { OnErr result (out.new.items ≡ out.old.items) }
     {
         let start = out.len();
         let Opening { mut source, length } = file;
+        let agreed = match read.agree(length, &self.config.limits) {
+            Ok(agreed) => agreed,
+            Err(refusal) => return Err(Unopened::Refused(accept_reply(refusal))),
+        };
         let service = ReadService {
             peer: incoming.from,
             mode: read.mode,
             length,
             retries: self.config.retries,
         };
-        match End::serve_source(self.alloc, &mut source, service, agreed, out) {
+        match End::serve_source(self.alloc, &mut source, service, &agreed, out) {
             Ok((end, _)) => {
                 let Ok(request) = Vec::from_slice(self.alloc, incoming.bytes) else {
                     out.truncate(start);
-                    return Err(ServerFault::Memory);
+                    return Err(Unopened::Memory);
                 };
-                let transfer = Transfer::new(end, Files::Source(source), read.path, request);
-                Ok(Decision::Open(transfer))
+                let files = Files::Source(source);
+                Ok(Transfer::new(end, files, read.path, request))
             }
-            Err(fault) => serve_refused(fault),
+            Err(fault) => Err(serve_refused(fault)),
         }
     }
 
@@ -380,20 +338,16 @@ impl<S: Store> Server<S> {
         let table = mem::replace(&mut self.table, Table::new(self.alloc));
         match table.reserve(tid) {
             Ok(spot) => match self.write(incoming, write, out) {
-                Ok(Decision::Open(transfer)) => {
+                Ok(transfer) => {
                     self.table = spot.fill(transfer);
                     Ok(Opened {
                         tid: Some(tid),
                         to: Some(from),
                     })
                 }
-                Ok(Decision::Refuse(reply)) => {
+                Err(unopened) => {
                     self.table = spot.give_up(tid);
-                    Ok(refuse_in_room(reply, from, out))
-                }
-                Err(_) => {
-                    self.table = spot.give_up(tid);
-                    Err(ServerFault::Memory)
+                    refuse(unopened, from, out)
                 }
             },
             Err(table) => {
@@ -410,32 +364,29 @@ impl<S: Store> Server<S> {
         incoming: Incoming<'_>,
         write: WriteRequest,
         out: &mut Vec<u8>,
-    ) -> Result<Decision<S::Source, S::Draft>, ServerFault>
-        ensures asks { IfOk result (λ decision. AsksToWrite S.meaning S.Source.meaning
+    ) -> Result<Transfer<S::Source, S::Draft>, Unopened>
+        ensures asks { Decides result self.new.store (λ came. AsksToWrite S.meaning S.Source.meaning
             self.old incoming.entry.from incoming.entry.bytes.now write.path write.mode
-            write.agreed (came_to decision self.new.store)) }
-        ensures sent { IfOk result (λ decision. out.new.items ≡ out.old.items ++ decided_bytes
-            decision) }
+            write.agreed came) (self.new ≡ self.old) }
+        ensures sent { out.new.items ≡ out.old.items ++ decided_bytes result }
         ensures rest { self.new ≡ record self.old { store = self.new.store } }
-        ensures room { OnOk result (length out.old.items + MAX_ERROR ≤ vec_capacity out.new) }
-        ensures memory { IfErr result (λ fault. fault ≡ ServerFault.Memory) }
+        ensures room { result ≢ Err Unopened.Memory
+            → length out.old.items + MAX_ERROR ≤ vec_capacity out.new }
         ensures capacity { vec_capacity out.old ≤ vec_capacity out.new }
-        ensures err { OnErr result ((self.new ≡ self.old) × (out.new.items ≡ out.old.items)) }
     {
         let start = out.len();
-        let retries = self.config.retries;
-        let replace = self.config.overwrite;
-        let Ok((end, request)) = prepare(self.alloc, incoming, &write, retries, out) else {
-            return Err(ServerFault::Memory);
+        let Ok((end, request)) = prepare(self.alloc, incoming, &write, self.config.retries, out)
+        else {
+            return Err(Unopened::Memory);
         };
-        match self.store.begin(self.alloc, &write.path, replace) {
-            Ok(draft) => {
-                let transfer = Transfer::new(end, Files::Sink(draft), write.path, request);
-                Ok(Decision::Open(transfer))
-            }
+        match self
+            .store
+            .begin(self.alloc, &write.path, self.config.overwrite)
+        {
+            Ok(draft) => Ok(Transfer::new(end, Files::Sink(draft), write.path, request)),
             Err(fault) => {
                 out.truncate(start);
-                begin_refused(fault)
+                Err(begin_refused(fault))
             }
         }
     }
@@ -457,21 +408,17 @@ fn prepare(
     ensures capacity { vec_capacity out.old ≤ vec_capacity out.new }
     ensures err { OnErr result (out.new.items ≡ out.old.items) }
 {
-    let start = out.len();
+    out.reserve(MAX_ERROR)?;
     let request = Vec::from_slice(alloc, incoming.bytes)?;
-    let Ok((end, _)) = End::serve_write(
+    match End::serve_write(
         alloc,
         incoming.from,
         write.mode,
         &write.agreed,
         retries,
         out,
-    ) else {
-        return Err(AllocError);
-    };
-    let Ok(()) = out.reserve(MAX_ERROR) else {
-        out.truncate(start);
-        return Err(AllocError);
-    };
-    Ok((end, request))
+    ) {
+        Ok((end, _)) => Ok((end, request)),
+        Err(_) => Err(AllocError),
+    }
 }
