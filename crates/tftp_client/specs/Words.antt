@@ -1,60 +1,62 @@
 -- The job that the words of a command line name (own).
-use Rattle.std.specs.Prelude.{ℕ, true, List, codes, Option, Some, None}
+use Rattle.std.specs.Prelude.{ℕ, ⊤, true, List, [], ◌∷◌, codes, Option, Some, None}
 use Rattle.clap.specs.Simple.{App, new_app, subcommand_of, with_rule, with_subcommand}
-use Rattle.clap.specs.Walk.{Row}
+use Rattle.clap.specs.Walk.{Row, Rule}
+use Rattle.clap.specs.declared.builder.arg.Arg.{Arg}
 use Rattle.tftp_arguments.specs.Read.{read_in}
-use Rattle.tftp_arguments.specs.Rules.{by_default, flag_rule, within, word_rule}
+use Rattle.tftp_arguments.specs.Rules.{HasRule, by_default, flag_rule, within, word_rule}
 use Rattle.tftp_client.specs.declared.transfer.Job.{Job}
 use Rattle.tftp_client.specs.CommandLine.{NamesJob, kind_named}
 
 -- ---- the command line
--- with the options that are requested from the server
+-- the arguments have these rules, each its own
+abbrev pub HaveRules : List Rule → List Arg → Type 0
+HaveRules [] [] = ⊤
+HaveRules (rule ∷ rules) (arg ∷ args) = HasRule rule arg × HaveRules rules args
+HaveRules [] (arg ∷ args) = ⊥
+HaveRules (rule ∷ rules) [] = ⊥
+
+-- with arguments of these rules, in turn
+abbrev pub with_rules : App → List Rule → App
+with_rules app [] = app
+with_rules app (rule ∷ rules) = with_rules (with_rule app rule) rules
+
+-- the options of a transfer; those from `blksize` to `tsize` are requested from the server
 -- (RFC 2348, "Blocksize Option Specification"; RFC 2349)
-abbrev pub with_asked : App → App
-with_asked app =
-    with_rule
-    (with_rule (with_rule app (record (within (codes "blksize") 8 65464) { short = Some 98 }))
-    (within (codes "timeout") 1 255))
-    (flag_rule (codes "tsize"))
+abbrev pub option_rules : List Rule
+option_rules =
+    flag_rule (codes "netascii")
+    ∷ record (within (codes "blksize") 8 65464) { short = Some 98 }
+    ∷ within (codes "timeout") 1 255
+    ∷ flag_rule (codes "tsize")
+    ∷ by_default (codes "5") (within (codes "retries") 0 10)
+    ∷ flag_rule (codes "backoff")
+    ∷ flag_rule (codes "fallback")
+    ∷ flag_rule (codes "progress")
+    ∷ record (flag_rule (codes "verbose")) { short = Some 118 }
+    ∷ []
 
--- with the flags for reports
-abbrev pub with_reports : App → App
-with_reports app =
-    with_rule (with_rule app (flag_rule (codes "progress")))
-    (record (flag_rule (codes "verbose")) { short = Some 118 })
+-- the words and the flags of `tftp get`
+abbrev pub get_words : List Rule
+get_words =
+    word_rule (codes "ADDR:PORT") ∷ word_rule (codes "NAME") ∷ word_rule (codes "LOCAL") ∷ []
 
--- with the options of a transfer
-abbrev pub with_options : App → App
-with_options app =
-    with_reports
-    (with_rule
-    (with_rule
-    (with_rule (with_asked (with_rule app (flag_rule (codes "netascii"))))
-    (by_default (codes "5") (within (codes "retries") 0 10)))
-    (flag_rule (codes "backoff")))
-    (flag_rule (codes "fallback")))
+abbrev pub get_flags : List Rule
+get_flags = flag_rule (codes "replace") ∷ flag_rule (codes "no-dally") ∷ []
 
 -- `tftp get`
 abbrev pub get_app : App
 get_app =
-    with_rule
-    (with_rule
-    (with_options
-    (with_rule
-    (with_rule (with_rule (new_app (codes "get")) (word_rule (codes "ADDR:PORT")))
-    (word_rule (codes "NAME")))
-    (word_rule (codes "LOCAL"))))
-    (flag_rule (codes "replace")))
-    (flag_rule (codes "no-dally"))
+    with_rules (with_rules (with_rules (new_app (codes "get")) get_words) option_rules) get_flags
+
+-- the words of `tftp put`
+abbrev pub put_words : List Rule
+put_words =
+    word_rule (codes "ADDR:PORT") ∷ word_rule (codes "LOCAL") ∷ word_rule (codes "NAME") ∷ []
 
 -- `tftp put`
 abbrev pub put_app : App
-put_app =
-    with_options
-    (with_rule
-    (with_rule (with_rule (new_app (codes "put")) (word_rule (codes "ADDR:PORT")))
-    (word_rule (codes "LOCAL")))
-    (word_rule (codes "NAME")))
+put_app = with_rules (with_rules (new_app (codes "put")) put_words) option_rules
 
 -- `tftp` before its subcommands
 abbrev pub bare_app : App

@@ -2,21 +2,23 @@
 
 ghost use Rattle.std.specs.Prelude.{◌≡◌, ◌≢◌, ◌⊎◌, true, false, codes, Some, None, map};
 ghost use Rattle.std.specs.Prelude.{IfOk, IfSome};
-ghost use Rattle.clap.specs.Simple.{App, subcommand_rows_of};
+ghost use Rattle.clap.specs.Simple.{subcommand_rows_of};
+ghost use Rattle.clap.specs.Values.{kind_of};
 ghost use Rattle.tftp_wire.specs.declared.mode.Mode.TheVariants.{Octet, Netascii};
 ghost use Rattle.tftp_disk.specs.declared.existing.Existing.TheVariants.{Refused, Replaced};
 ghost use Rattle.tftp_arguments.specs.Fault.{AskForText};
 ghost use Rattle.tftp_ends.specs.declared.backoff.Backoff.TheVariants.{Constant, Doubling};
 ghost use Rattle.tftp_arguments.specs.Read.{IsChosen, read_of, value_text};
-ghost use Rattle.tftp_arguments.specs.Rules.{HasRule, IsApp, by_default, within, word_rule};
+ghost use Rattle.tftp_arguments.specs.Rules.{HasRule, IsApp, by_default, flag_rule, within};
+ghost use Rattle.tftp_arguments.specs.Rules.{word_rule};
 ghost use Rattle.tftp_sockets.specs.Address.{Names};
 ghost use Rattle.tftp_client.specs.CommandLine.{AsksAs, IfExit, IfRun, NamesJob, kind_named};
 ghost use Rattle.tftp_client.specs.Words.{NamesBy, WordsName, bare_app, get_app, put_app, tftp_app};
-ghost use Rattle.tftp_client.specs.Words.{with_asked, with_options, with_reports};
+ghost use Rattle.tftp_client.specs.Words.{HaveRules, option_rules};
 
 use crate::transfer::{Job, Progress};
 use clap::error::ErrorKind;
-use clap::{Arg, ArgMatches, Command, value_parser};
+use clap::{Arg, ArgMatches, Command, Error, value_parser};
 use std::alloc::{AllocError, Global};
 use std::convert::AsStr;
 use std::io::IsTerminal;
@@ -71,7 +73,7 @@ pub(crate) fn read_words<'a, P: Print + Eprint, S: AsStr>(
     texts: &'a BlockTexts,
     words: &'a [S],
     errors: ErrorOutput,
-) -> anyhow::Result<CommandLine<'a>>
+) -> Result<CommandLine<'a>, AllocError>
     ensures ends { IfOk result (λ line. IfExit line (λ status. (status ≡ 0) ⊎ (status ≡ 2))) }
     ensures names { IfOk result (λ line. IfRun line (λ job.
         WordsName (map S.text words.now) job)) }
@@ -92,7 +94,7 @@ fn match_words<'a, P: Print + Eprint, S: AsStr>(
     command: &mut Command<'a>,
     words: &'a [S],
     errors: ErrorOutput,
-) -> anyhow::Result<CommandLine<'a>>
+) -> Result<CommandLine<'a>, AllocError>
     requires { IsApp tftp_app command.old }
     ensures ends { IfOk result (λ line. IfExit line (λ status. (status ≡ 0) ⊎ (status ≡ 2))) }
     ensures names { IfOk result (λ line. IfRun line (λ job.
@@ -113,7 +115,7 @@ fn read_matches<'a, P: Print + Eprint>(
     texts: &'a BlockTexts,
     matches: &ArgMatches<'a>,
     errors: ErrorOutput,
-) -> anyhow::Result<CommandLine<'a>>
+) -> Result<CommandLine<'a>, AllocError>
     ensures status { IfOk result (λ line. IfExit line (λ status. status ≡ 2)) }
     ensures names { IfOk result (λ line. IfRun line (λ job.
         NamesBy (subcommand_rows_of matches.now) job)) }
@@ -149,20 +151,40 @@ fn report_address<'a, P: Print + Eprint>(
     texts: &'a BlockTexts,
     word: &str,
     matches: &ArgMatches<'a>,
-) -> anyhow::Result<u8>
+) -> Result<u8, AllocError>
     ensures { IfOk result (λ status. status ≡ 2) }
 {
     let address = matches.get_str("ADDR:PORT").unwrap_or("");
+    let mut command = subcommand(kind_of(word), alloc, texts)?;
+    let error = invalid_address(alloc, &mut command, address)?;
+    Ok(print_usage(rt, &error))
+}
+
+/// A subcommand of its own, with the words that it is called by in its usage.
+fn subcommand<'a>(
+    kind: Kind,
+    alloc: Global,
+    texts: &'a BlockTexts,
+) -> Result<Command<'a>, AllocError> {
+    match kind {
+        Kind::Read => get_command(alloc, texts)?.bin_name("tftp get"),
+        Kind::Write => put_command(alloc, texts)?.bin_name("tftp put"),
+    }
+}
+
+/// The fault of a word that is not the address of a server.
+fn invalid_address(
+    alloc: Global,
+    command: &mut Command<'_>,
+    address: &str,
+) -> Result<Error, AllocError>
+    ensures { IfOk result (λ error. kind_of error ≡ ErrorKind.InvalidValue) }
+{
     let message = format!(in alloc;
         "invalid value '{address}' for '<ADDR:PORT>': \
          not an IPv4 address and a port of 1 to 65535"
     )?;
-    let mut command = match kind_of(word) {
-        Kind::Read => get_command(alloc, texts)?.bin_name("tftp get")?,
-        Kind::Write => put_command(alloc, texts)?.bin_name("tftp put")?,
-    };
-    let error = command.error(ErrorKind::InvalidValue, message.as_str())?;
-    Ok(print_usage(rt, &error))
+    command.error(ErrorKind::InvalidValue, message.as_str())
 }
 
 /// The job of a valid command line, or `None` if its address is invalid.
@@ -270,67 +292,64 @@ fn asked_length(matches: &ArgMatches<'_>) -> Option<u64>
 }
 
 /// The command line of `tftp`.
-fn command<'a>(alloc: Global, texts: &'a BlockTexts) -> anyhow::Result<Command<'a>>
+fn command<'a>(alloc: Global, texts: &'a BlockTexts) -> Result<Command<'a>, AllocError>
     ensures { IfOk result (IsApp tftp_app) }
 {
     let command = bare_command(alloc)?;
-    let get = get_command(alloc, texts)?;
-    let command = command.subcommand(get)?;
-    let put = put_command(alloc, texts)?;
-    Ok(command.subcommand(put)?)
+    let command = command.subcommand(get_command(alloc, texts)?)?;
+    command.subcommand(put_command(alloc, texts)?)
 }
 
 /// The command line of `tftp` without its subcommands.
-fn bare_command<'a>(alloc: Global) -> anyhow::Result<Command<'a>>
+fn bare_command<'a>(alloc: Global) -> Result<Command<'a>, AllocError>
     ensures { IfOk result (IsApp bare_app) }
 {
-    let command = Command::new(alloc, "tftp").bin_name("tftp")?;
-    Ok(
-        command
-            .about("Transfers a file by TFTP (RFC 1350, RFC 2347 to 2349)")
-            .version(VERSION)
-            .after_help(EXAMPLES)
-            .subcommand_required(true)
-            .arg_required_else_help(true),
-    )
+    Command::new(alloc, "tftp")
+        .about("Transfers a file by TFTP (RFC 1350, RFC 2347 to 2349)")
+        .version(VERSION)
+        .after_help(EXAMPLES)
+        .subcommand_required(true)
+        .arg_required_else_help(true)
+        .bin_name("tftp")
 }
 
 /// The command line of `tftp get`.
-fn get_command<'a>(alloc: Global, texts: &'a BlockTexts) -> anyhow::Result<Command<'a>>
+fn get_command<'a>(alloc: Global, texts: &'a BlockTexts) -> Result<Command<'a>, AllocError>
     ensures { IfOk result (IsApp get_app) }
 {
-    let local = word(
-        alloc,
-        "LOCAL",
-        "The path of the file here, which must not exist without --replace",
-    );
-    let command = Command::new(alloc, "get").about("Fetches a file");
-    let command = command.arg(server(alloc))?;
-    let command = command.arg(name(alloc))?;
-    let command = with_options(alloc, command.arg(local)?, texts)?;
+    let options = options(alloc, texts)?;
     let replace = flag(
         alloc,
         "replace",
         "Replaces LOCAL, if it is a regular file, once the new file is whole",
     );
-    let command = command.arg(replace)?;
     let no_dally = flag(
         alloc,
         "no-dally",
         "Ends once LOCAL has its name; a lost last ACK is then not sent again",
     );
-    Ok(command.arg(no_dally)?.after_help(DALLYING))
+    let flags = vec![in alloc; replace, no_dally]?;
+    let local = word(
+        alloc,
+        "LOCAL",
+        "The path of the file here, which must not exist without --replace",
+    );
+    let words = vec![in alloc; server(alloc), name(alloc), local]?;
+    let command = Command::new(alloc, "get")
+        .about("Fetches a file")
+        .after_help(DALLYING);
+    command.args(words)?.args(options)?.args(flags)
 }
 
 /// The command line of `tftp put`.
-fn put_command<'a>(alloc: Global, texts: &'a BlockTexts) -> anyhow::Result<Command<'a>>
+fn put_command<'a>(alloc: Global, texts: &'a BlockTexts) -> Result<Command<'a>, AllocError>
     ensures { IfOk result (IsApp put_app) }
 {
+    let options = options(alloc, texts)?;
     let local = word(alloc, "LOCAL", "The path of the file here");
+    let words = vec![in alloc; server(alloc), local, name(alloc)]?;
     let command = Command::new(alloc, "put").about("Sends a file");
-    let command = command.arg(server(alloc))?;
-    let command = command.arg(local)?;
-    with_options(alloc, command.arg(name(alloc))?, texts)
+    command.args(words)?.args(options)
 }
 
 /// The argument for the server's address.
@@ -351,34 +370,54 @@ fn name<'a>(alloc: Global) -> Arg<'a>
     word(alloc, "NAME", "The name of the file at the server")
 }
 
-/// Adds the arguments for the options of a transfer.
-fn with_options<'a>(
-    alloc: Global,
-    command: Command<'a>,
-    texts: &'a BlockTexts,
-) -> anyhow::Result<Command<'a>>
-    ensures { (app : App) → IsApp app command.entry → IfOk result (IsApp (with_options app)) }
+/// The arguments for the options of a transfer.
+fn options<'a>(alloc: Global, texts: &'a BlockTexts) -> Result<Vec<Arg<'a>>, AllocError>
+    ensures { IfOk result (λ args. HaveRules option_rules args.items) }
 {
     let netascii = flag(
         alloc,
         "netascii",
         "The file is text, and travels with CR LF at its line ends",
     );
-    let command = command.arg(netascii)?;
-    let command = with_asked(alloc, command, texts)?;
-    let command = command.arg(retries(alloc))?;
+    let tsize = flag(alloc, "tsize", "Asks for the length of the file");
     let backoff = flag(
         alloc,
         "backoff",
         "Waits twice as long after each timeout, up to eight times",
     );
-    let command = command.arg(backoff)?;
     let fallback = flag(
         alloc,
         "fallback",
         "Tries again without options where the server refuses them",
     );
-    with_reports(alloc, command.arg(fallback)?)
+    let progress = flag(
+        alloc,
+        "progress",
+        "Shows how far the transfer came, where standard error is a terminal",
+    );
+    Ok(vec![in alloc;
+        netascii,
+        blksize(alloc, texts),
+        timeout(alloc),
+        tsize,
+        retries(alloc),
+        backoff,
+        fallback,
+        progress,
+        verbose(alloc),
+    ]?)
+}
+
+/// The flag that earlier versions needed to print the cause of a failure.
+fn verbose<'a>(alloc: Global) -> Arg<'a>
+    ensures { HasRule (record (flag_rule (codes "verbose")) { short = Some 118 }) result }
+{
+    let verbose = flag(
+        alloc,
+        "verbose",
+        "No effect: the cause of a failure is always printed",
+    );
+    verbose.short('v')
 }
 
 /// The argument for the limit of retransmissions.
@@ -393,24 +432,6 @@ fn retries<'a>(alloc: Global) -> Arg<'a>
         "How often a datagram is sent again without progress",
     );
     retries.default_value("5")
-}
-
-/// Adds the flags for reports on standard error.
-fn with_reports<'a>(alloc: Global, command: Command<'a>) -> anyhow::Result<Command<'a>>
-    ensures { (app : App) → IsApp app command.entry → IfOk result (IsApp (with_reports app)) }
-{
-    let progress = flag(
-        alloc,
-        "progress",
-        "Shows how far the transfer came, where standard error is a terminal",
-    );
-    let command = command.arg(progress)?;
-    let verbose = flag(
-        alloc,
-        "verbose",
-        "No effect: the cause of a failure is always printed",
-    );
-    Ok(command.arg(verbose.short('v'))?)
 }
 
 /// The help texts for the block size.
@@ -429,19 +450,6 @@ impl BlockTexts {
             )?,
         })
     }
-}
-
-/// Adds the arguments for the options that are requested from the server.
-fn with_asked<'a>(
-    alloc: Global,
-    command: Command<'a>,
-    texts: &'a BlockTexts,
-) -> anyhow::Result<Command<'a>>
-    ensures { (app : App) → IsApp app command.entry → IfOk result (IsApp (with_asked app)) }
-{
-    let command = command.arg(blksize(alloc, texts))?;
-    let command = command.arg(timeout(alloc))?;
-    Ok(command.arg(flag(alloc, "tsize", "Asks for the length of the file"))?)
 }
 
 /// The argument for the requested block size (RFC 2348, "Blocksize Option Specification").

@@ -1,14 +1,20 @@
--- Argument by argument.
-use Rattle.tftp_client.proofs.Common.{codes, refl, new_app, IsApp, commands_grow}
+-- The words, the options of a transfer, and the flags of this subcommand.
+use Rattle.tftp_client.proofs.Common.{codes, refl, subst, sym, [], ◌∷◌, new_app, IsApp, commands_grow}
+use Rattle.tftp_client.specs.Words.{HaveRules, get_flags, get_words, option_rules}
+use Rattle.tftp_client.proofs.Commands.{rules_added, rules_added_last}
 use Rattle.tftp_client.proofs.command_line.get_command.Goals as goal
 
 pub returns : goal.returns
 returns c =
     let named : IsApp (new_app (codes "get")) c.new.result = search in
-    let bare = commands_grow.stays _ named c.about-command.ensures refl refl in
-    let words = commands_grow.adds (commands_grow.adds (commands_grow.adds bare c.server.ensures
-    c.in_ok-command.ensures) c.name.ensures c.in_ok-command-2.ensures) c.word-local.ensures c.in_ok-arg.ensures in
-    let options = c.in_ok-command-3.ensures _ words in
-    let flags = commands_grow.adds (commands_grow.adds options c.flag-replace.ensures c.in_ok-command-4.ensures)
-    c.flag-no_dally.ensures c.in_ok-arg-2.ensures in
-    commands_grow.stays _ flags c.after_help.ensures refl refl
+    let about = commands_grow.stays _ named c.about.ensures refl refl in
+    let bare = commands_grow.stays _ about c.after_help-command.ensures refl refl in
+    let have_words : HaveRules get_words (c.server.result ∷ c.name.result ∷ c.word-local.result ∷ []) =
+    (c.server.ensures, (c.name.ensures, (c.word-local.ensures, tt))) in
+    let words = rules_added get_words c.in_ok-words.words.items bare (subst (HaveRules get_words) (sym c.in_ok-words.ensures.items) have_words)
+    c.in_ok-args.ensures in
+    let options = rules_added option_rules c.in_ok-options.options.items words c.in_ok-options.ensures c.in_ok-args-2.ensures in
+    let have_flags : HaveRules get_flags (c.flag-replace.result ∷ c.flag-no_dally.result ∷ []) =
+    (c.flag-replace.ensures, (c.flag-no_dally.ensures, tt)) in
+    let flags = subst (HaveRules get_flags) (sym c.in_ok-flags.ensures.items) have_flags in
+    rules_added_last c.args-4.result get_flags c.in_ok-flags.flags.items options flags c.args-4.ensures
