@@ -5,49 +5,39 @@ use crate::server_config::part_of;
 use std::alloc::{AllocError, Global};
 use tftp_ends::Backoff;
 
-/// The words for a server of the configuration. Behind `--` stands the folder, whatever its name
-/// begins with.
+/// The words for a server of the configuration.
 pub(crate) fn words_of(
     alloc: Global,
     config: &DaemonConfig<'_>,
     server: u8,
 ) -> Result<Vec<String>, AllocError> {
     let mut words = Vec::new(alloc);
-    add_word(&mut words, format!(in alloc; "tftpd")?)?;
-    add_word(&mut words, format!(in alloc; "--listen=stdin")?)?;
-    add_word(&mut words, format!(in alloc; "--server={server}")?)?;
-    add_ports(alloc, &mut words, config, server)?;
-    if config.requests_only {
-        add_word(&mut words, format!(in alloc; "--requests-only")?)?;
+    match add_words(alloc, &mut words, config, server) {
+        Ok(()) => Ok(words),
+        Err(error) => Err(error),
     }
-    add_limits(alloc, &mut words, config)?;
-    add_writes(alloc, &mut words, config)?;
-    if let Some(seconds) = config.longest {
-        add_word(&mut words, format!(in alloc; "--longest={seconds}")?)?;
-    }
-    let bytes = config.length_memory;
-    add_word(&mut words, format!(in alloc; "--length-memory={bytes}")?)?;
-    if let Some(path) = config.drain {
-        add_word(&mut words, format!(in alloc; "--drain={path}")?)?;
-    }
-    if let Some(path) = config.status {
-        add_word(&mut words, format!(in alloc; "--status={path}")?)?;
-    }
-    add_word(&mut words, format!(in alloc; "--forever")?)?;
-    if config.logs {
-        add_word(&mut words, format!(in alloc; "--log")?)?;
-    }
-    if config.log_times {
-        add_word(&mut words, format!(in alloc; "--log-time")?)?;
-    }
-    add_word(&mut words, format!(in alloc; "--")?)?;
-    add_word(&mut words, String::from_str(alloc, config.root)?)?;
-    Ok(words)
 }
 
-/// Adds a word.
-fn add_word(words: &mut Vec<String>, word: String) -> Result<(), AllocError> {
-    match words.push(word) {
+/// Adds all words. Behind `--` stands the folder, whatever its name begins with.
+fn add_words(
+    alloc: Global,
+    words: &mut Vec<String>,
+    config: &DaemonConfig<'_>,
+    server: u8,
+) -> Result<(), AllocError> {
+    add_word(words, String::from_str(alloc, "tftpd"))?;
+    add_word(words, String::from_str(alloc, "--listen=stdin"))?;
+    add_ports(alloc, words, config, server)?;
+    add_numbers(alloc, words, config, server)?;
+    add_paths(alloc, words, config)?;
+    add_flags(alloc, words, config)?;
+    add_word(words, String::from_str(alloc, "--"))?;
+    add_word(words, String::from_str(alloc, config.root))
+}
+
+/// Adds a word, if there was memory for it.
+fn add_word(words: &mut Vec<String>, word: Result<String, AllocError>) -> Result<(), AllocError> {
+    match words.push(word?) {
         Ok(()) => Ok(()),
         Err(error) => Err(AllocError::from(error)),
     }
@@ -66,49 +56,76 @@ fn add_ports(
     match part_of(range, config.servers().unwrap_or(0), server) {
         Some(part) => {
             let (first, last) = (part.first, part.last);
-            add_word(words, format!(in alloc; "--ports={first}:{last}")?)
+            add_word(words, format!(in alloc; "--ports={first}:{last}"))
         }
         None => Ok(()),
     }
 }
 
-/// Adds the limits of transfers.
-fn add_limits(
+/// Adds the options with a number.
+fn add_numbers(
     alloc: Global,
     words: &mut Vec<String>,
     config: &DaemonConfig<'_>,
+    server: u8,
 ) -> Result<(), AllocError> {
-    let max_block = config.config.limits.max_block;
-    let max_file = config.config.limits.max_file;
-    let retries = config.config.retries;
-    let cap = config.config.cap;
-    add_word(words, format!(in alloc; "--max-block={max_block}")?)?;
-    add_word(words, format!(in alloc; "--max-file={max_file}")?)?;
-    add_word(words, format!(in alloc; "--retries={retries}")?)?;
-    if config.backoff == Backoff::Doubling {
-        add_word(words, format!(in alloc; "--backoff")?)?;
+    let limits = config.config.limits;
+    let numbers = [
+        ("server", Some(u64::from(server))),
+        ("max-block", Some(u64::from(limits.max_block))),
+        ("max-file", Some(limits.max_file)),
+        ("retries", Some(u64::from(config.config.retries))),
+        ("cap", Some(u64::from(config.config.cap))),
+        ("per-client", config.per_client.map(u64::from)),
+        ("longest", config.longest.map(u64::from)),
+        ("length-memory", Some(config.length_memory)),
+    ];
+    for (option, number) in numbers {
+        if let Some(number) = number {
+            add_word(words, format!(in alloc; "--{option}={number}"))?;
+        }
     }
-    add_word(words, format!(in alloc; "--cap={cap}")?)?;
-    match config.per_client {
-        Some(most) => add_word(words, format!(in alloc; "--per-client={most}")?),
-        None => Ok(()),
-    }
+    Ok(())
 }
 
-/// Adds what is said of writes.
-fn add_writes(
+/// Adds the options with a path.
+fn add_paths(
     alloc: Global,
     words: &mut Vec<String>,
     config: &DaemonConfig<'_>,
 ) -> Result<(), AllocError> {
-    if config.config.overwrite {
-        add_word(words, format!(in alloc; "--overwrite")?)?;
+    let paths = [
+        ("uploads", config.uploads),
+        ("drain", config.drain),
+        ("status", config.status),
+    ];
+    for (option, path) in paths {
+        if let Some(path) = path {
+            add_word(words, format!(in alloc; "--{option}={path}"))?;
+        }
     }
-    if config.read_only {
-        add_word(words, format!(in alloc; "--read-only")?)?;
+    Ok(())
+}
+
+/// Adds the options without a value.
+fn add_flags(
+    alloc: Global,
+    words: &mut Vec<String>,
+    config: &DaemonConfig<'_>,
+) -> Result<(), AllocError> {
+    let flags = [
+        ("--requests-only", config.requests_only),
+        ("--backoff", config.backoff == Backoff::Doubling),
+        ("--overwrite", config.config.overwrite),
+        ("--read-only", config.read_only),
+        ("--forever", true),
+        ("--log", config.logs),
+        ("--log-time", config.log_times),
+    ];
+    for (flag, is_on) in flags {
+        if is_on {
+            add_word(words, String::from_str(alloc, flag))?;
+        }
     }
-    match config.uploads {
-        Some(folder) => add_word(words, format!(in alloc; "--uploads={folder}")?),
-        None => Ok(()),
-    }
+    Ok(())
 }
