@@ -1,12 +1,14 @@
 -- The configuration that the words of a command line name (own).
-use Rattle.std.specs.Prelude.{ℕ, true, List, codes, Some}
+use Rattle.std.specs.Prelude.{ℕ, ⊤, true, List, [], ◌∷◌, codes, Some}
 use Rattle.std.specs.Fmt.{decimal}
 use Rattle.clap.specs.Simple.{App, matches_of, new_app, new_rule, on_top, with_rule}
 use Rattle.clap.specs.Walk.{Rule}
 use Rattle.clap.specs.declared.builder.action.ArgAction.TheVariants.{Append}
+use Rattle.clap.specs.declared.builder.arg.Arg.{Arg}
 use Rattle.clap.specs.declared.builder.value_parser.ValueParser.TheVariants as parsers
 use Rattle.tftp_server.specs.Config.{default_config}
-use Rattle.tftp_arguments.specs.Rules.{by_default, flag_rule, number_rule, within, word_rule}
+use Rattle.tftp_arguments.specs.Rules.{HasRule, by_default, flag_rule, number_rule, within}
+use Rattle.tftp_arguments.specs.Rules.{word_rule}
 use Rattle.tftp_daemon.specs.CommandLine.{StartsInRows}
 use Rattle.tftp_daemon.specs.Refused.{Configures}
 use Rattle.tftp_daemon.specs.declared.daemon.DaemonConfig.{DaemonConfig}
@@ -24,68 +26,62 @@ any_number id = number_rule id (parsers.Unsigned 0 18446744073709551615)
 abbrev pub repeated : Rule → Rule
 repeated rule = record rule { action = Some Append }
 
--- with the folder, the address of the request port, what is handled there, and the ports of
--- transfers
-abbrev pub with_folder_and_ports : App → App
-with_folder_and_ports app =
-    with_rule
-    (with_rule
-    (with_rule (with_rule app (word_rule (codes "ROOT")))
-    (repeated (by_default (codes "127.0.0.1:6969") (option_rule (codes "listen")))))
-    (flag_rule (codes "requests-only")))
-    (option_rule (codes "ports"))
+-- the arguments have these rules, each its own
+abbrev pub HaveRules : List Rule → List Arg → Type 0
+HaveRules [] [] = ⊤
+HaveRules (rule ∷ rules) (arg ∷ args) = HasRule rule arg × HaveRules rules args
+HaveRules [] (arg ∷ args) = ⊥
+HaveRules (rule ∷ rules) [] = ⊥
 
--- with the limits of transfers
+-- with arguments of these rules, in turn
+abbrev pub with_rules : App → List Rule → App
+with_rules app [] = app
+with_rules app (rule ∷ rules) = with_rules (with_rule app rule) rules
+
+-- the folder, the address of the request port, what is handled there, and the ports of transfers
+abbrev pub folder_and_ports : List Rule
+folder_and_ports =
+    word_rule (codes "ROOT")
+    ∷ repeated (by_default (codes "127.0.0.1:6969") (option_rule (codes "listen")))
+    ∷ flag_rule (codes "requests-only")
+    ∷ option_rule (codes "ports")
+    ∷ []
+
+-- the limits of transfers
 -- (RFC 2348, "Blocksize Option Specification", for the block size; the rest is our choice)
-abbrev pub with_limits : App → App
-with_limits app =
-    with_rule
-    (with_rule
-    (with_rule
-    (with_rule
-    (with_rule
-    (with_rule
-    (with_rule
-    (with_rule app
-    (by_default (decimal default_config.limits.max_block)
-    (within (codes "max-block") 8 65464)))
-    (by_default (decimal default_config.limits.max_file) (any_number (codes "max-file"))))
-    (by_default (decimal default_config.retries) (within (codes "retries") 0 10)))
-    (flag_rule (codes "backoff")))
-    (by_default (decimal default_config.cap) (within (codes "cap") 1 64)))
-    (within (codes "per-client") 1 64))
-    (within (codes "longest") 1 4294967295))
-    (by_default (codes "12582912") (any_number (codes "length-memory")))
+abbrev pub limits : List Rule
+limits =
+    by_default (decimal default_config.limits.max_block) (within (codes "max-block") 8 65464)
+    ∷ by_default (decimal default_config.limits.max_file) (any_number (codes "max-file"))
+    ∷ by_default (decimal default_config.retries) (within (codes "retries") 0 10)
+    ∷ flag_rule (codes "backoff")
+    ∷ by_default (decimal default_config.cap) (within (codes "cap") 1 64)
+    ∷ within (codes "per-client") 1 64
+    ∷ within (codes "longest") 1 4294967295
+    ∷ by_default (codes "12582912") (any_number (codes "length-memory"))
+    ∷ []
 
--- with the options of writes
-abbrev pub with_writes : App → App
-with_writes app =
-    with_rule
-    (with_rule (with_rule app (flag_rule (codes "overwrite"))) (flag_rule (codes "read-only")))
-    (option_rule (codes "uploads"))
+-- the options of writes, and the end of the server
+abbrev pub writes_and_ending : List Rule
+writes_and_ending =
+    flag_rule (codes "overwrite")
+    ∷ flag_rule (codes "read-only")
+    ∷ option_rule (codes "uploads")
+    ∷ by_default (codes "1") (within (codes "transfers") 1 4294967295)
+    ∷ by_default (codes "1000000") (within (codes "rounds") 1 4294967295)
+    ∷ flag_rule (codes "forever")
+    ∷ option_rule (codes "drain")
+    ∷ []
 
--- with the end of the server
-abbrev pub with_ending : App → App
-with_ending app =
-    with_rule
-    (with_rule
-    (with_rule
-    (with_rule app (by_default (codes "1") (within (codes "transfers") 1 4294967295)))
-    (by_default (codes "1000000") (within (codes "rounds") 1 4294967295)))
-    (flag_rule (codes "forever")))
-    (option_rule (codes "drain"))
-
--- with the number of servers, and which of them it is
-abbrev pub with_servers : App → App
-with_servers app =
-    with_rule (with_rule app (by_default (codes "1") (option_rule (codes "servers"))))
-    (within (codes "server") 1 64)
-
--- with what is logged, and what is counted
-abbrev pub with_log : App → App
-with_log app =
-    with_rule (with_rule (with_rule app (flag_rule (codes "log"))) (flag_rule (codes "log-time")))
-    (option_rule (codes "status"))
+-- the number of servers, which of them it is, what is logged, and what is counted
+abbrev pub servers_and_log : List Rule
+servers_and_log =
+    by_default (codes "1") (option_rule (codes "servers"))
+    ∷ within (codes "server") 1 64
+    ∷ flag_rule (codes "log")
+    ∷ flag_rule (codes "log-time")
+    ∷ option_rule (codes "status")
+    ∷ []
 
 -- `tftpd` without arguments
 abbrev pub bare_app : App
@@ -94,8 +90,9 @@ bare_app = on_top (λ top. record top { has_version = true }) (new_app (codes "t
 -- `tftpd`
 abbrev pub tftpd_app : App
 tftpd_app =
-    with_log
-    (with_servers (with_ending (with_writes (with_limits (with_folder_and_ports bare_app)))))
+    with_rules
+    (with_rules (with_rules (with_rules bare_app folder_and_ports) limits) writes_and_ending)
+    servers_and_log
 
 -- ---- the configuration
 -- the words name this configuration, and are not refused

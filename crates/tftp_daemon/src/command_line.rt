@@ -27,7 +27,6 @@ use crate::refused::{
     MOST_SERVERS, excluded, faulty_status, report_addresses, report_conflict, report_invalid,
 };
 use crate::surroundings::Surroundings;
-use anyhow::Result;
 use clap::{ArgMatches, Command};
 use std::alloc::{AllocError, Global};
 use std::convert::AsStr;
@@ -57,7 +56,7 @@ pub(crate) fn read_words<'a, P: Print + Eprint, S: AsStr>(
     texts: &'a Texts,
     words: &'a [S],
     surroundings: Surroundings,
-) -> Result<CommandLine<'a>>
+) -> Result<CommandLine<'a>, AllocError>
     ensures valid { IfOk result (λ line. IfRun line (λ config. IsConfig config.config)) }
     ensures names { IfOk result (λ line. IfRun line (WordsConfigure (map S.text words.now))) }
     ensures servers { IfOk result (λ line. IfRun line
@@ -79,7 +78,7 @@ fn match_words<'a, P: Print + Eprint, S: AsStr>(
     command: &mut Command<'a>,
     words: &'a [S],
     surroundings: Surroundings,
-) -> Result<CommandLine<'a>>
+) -> Result<CommandLine<'a>, AllocError>
     requires { IsApp tftpd_app command.old }
     ensures valid { IfOk result (λ line. IfRun line (λ config. IsConfig config.config)) }
     ensures names { IfOk result (λ line. IfRun line (WordsConfigure (map S.text words.now))) }
@@ -102,7 +101,7 @@ fn read_matches<'a, P: Print + Eprint>(
     command: &mut Command<'a>,
     matches: &ArgMatches<'a>,
     surroundings: Surroundings,
-) -> Result<CommandLine<'a>>
+) -> Result<CommandLine<'a>, AllocError>
     ensures valid { IfOk result (λ line. IfRun line (λ config. IsConfig config.config)) }
     ensures names { IfOk result (λ line. IfRun line
         (Configures (rows_of (found_of matches.now)))) }
@@ -112,31 +111,37 @@ fn read_matches<'a, P: Print + Eprint>(
 {
     let Some(servers) = servers_each(matches, surroundings.processors) else {
         let word = matches.get_str(SERVERS);
-        let status = report_invalid(rt, alloc, command, word, NO_SERVERS)?;
-        return Ok(CommandLine::Exit(status));
+        return exit(report_invalid(rt, alloc, command, word, NO_SERVERS));
     };
     if let Some(message) = excluded(matches, servers) {
-        let status = report_conflict(rt, command, message)?;
-        return Ok(CommandLine::Exit(status));
+        return exit(report_conflict(rt, command, message));
     }
     if let Some(no) = faulty_status(alloc, matches)? {
-        let status = report_invalid(rt, alloc, command, matches.get_str(STATUS), no.why())?;
-        return Ok(CommandLine::Exit(status));
+        let word = matches.get_str(STATUS);
+        return exit(report_invalid(rt, alloc, command, word, no.why()));
     }
     let ports = match port_range(matches.get_str(PORTS), server_count(matches, servers)) {
         Ok(ports) => ports,
         Err(NoPorts(why)) => {
             let word = matches.get_str(PORTS);
-            let status = report_invalid(rt, alloc, command, word, why)?;
-            return Ok(CommandLine::Exit(status));
+            return exit(report_invalid(rt, alloc, command, word, why));
         }
     };
     match read_service(alloc, matches, ports, servers, surroundings.errors)? {
         Some(service) => Ok(CommandLine::Run(service)),
-        None => {
-            let status = report_addresses(rt, alloc, command, matches)?;
-            Ok(CommandLine::Exit(status))
-        }
+        None => exit(report_addresses(rt, alloc, command, matches)),
+    }
+}
+
+/// Ends with the status for what was reported.
+fn exit<'a>(status: Result<u8, AllocError>) -> Result<CommandLine<'a>, AllocError>
+    ensures status { IfOk status (λ status. status ≡ 2)
+        → IfOk result (λ line. IfExit line (λ status. status ≡ 2)) }
+    ensures ends { IfOk result (λ line. IfRun line (λ _. ⊥)) }
+{
+    match status {
+        Ok(status) => Ok(CommandLine::Exit(status)),
+        Err(error) => Err(error),
     }
 }
 

@@ -3,14 +3,12 @@
 ghost use Rattle.std.specs.Prelude.{◌≡◌, codes, IfOk};
 ghost use Rattle.std.specs.Fmt.{decimal};
 ghost use Rattle.std.specs.String.{string_bytes};
-ghost use Rattle.clap.specs.Simple.{App};
 ghost use Rattle.tftp_server.specs.Config.{default_config};
 ghost use Rattle.tftp_arguments.specs.Rules.{HasRule, IsApp, by_default, flag_rule, within};
 ghost use Rattle.tftp_daemon.specs.Words.{any_number, bare_app, option_rule, repeated, tftpd_app};
-ghost use Rattle.tftp_daemon.specs.Words.{with_ending, with_folder_and_ports, with_limits};
-ghost use Rattle.tftp_daemon.specs.Words.{with_log, with_servers, with_writes};
+ghost use Rattle.tftp_daemon.specs.Words.{HaveRules, folder_and_ports, limits, servers_and_log};
+ghost use Rattle.tftp_daemon.specs.Words.{writes_and_ending};
 
-use anyhow::Result;
 use clap::{Arg, ArgAction, Command, value_parser};
 use std::alloc::{AllocError, Global};
 use tftp_arguments::{VERSION, flag, number, word};
@@ -92,29 +90,29 @@ impl Texts {
 }
 
 /// The command line of `tftpd`.
-pub(crate) fn command<'a>(alloc: Global, texts: &'a Texts) -> Result<Command<'a>>
+pub(crate) fn command<'a>(alloc: Global, texts: &'a Texts) -> Result<Command<'a>, AllocError>
     ensures { IfOk result (IsApp tftpd_app) }
 {
-    let command = bare_command(alloc)?;
-    let command = with_folder_and_ports(alloc, command)?;
-    let command = with_limits(alloc, command, texts)?;
-    let command = with_writes(alloc, command)?;
-    let command = with_ending(alloc, command)?;
-    let command = with_servers(alloc, command)?;
-    with_log(alloc, command)
+    let folder_and_ports = folder_and_ports(alloc)?;
+    let limits = limits(alloc, texts)?;
+    let writes_and_ending = writes_and_ending(alloc)?;
+    let servers_and_log = servers_and_log(alloc)?;
+    bare_command(alloc)?
+        .args(folder_and_ports)?
+        .args(limits)?
+        .args(writes_and_ending)?
+        .args(servers_and_log)
 }
 
 /// The command line of `tftpd` without arguments.
-fn bare_command<'a>(alloc: Global) -> Result<Command<'a>>
+fn bare_command<'a>(alloc: Global) -> Result<Command<'a>, AllocError>
     ensures { IfOk result (IsApp bare_app) }
 {
-    let command = Command::new(alloc, "tftpd").bin_name("tftpd")?;
-    Ok(
-        command
-            .about("Serves the files of a folder by TFTP (RFC 1350, RFC 2347 to 2349)")
-            .version(VERSION)
-            .after_help(EXAMPLES),
-    )
+    Command::new(alloc, "tftpd")
+        .about("Serves the files of a folder by TFTP (RFC 1350, RFC 2347 to 2349)")
+        .version(VERSION)
+        .after_help(EXAMPLES)
+        .bin_name("tftpd")
 }
 
 /// An option `--name WORD`.
@@ -127,28 +125,24 @@ fn option<'a>(alloc: Global, name: &'a str, value: &'a str, help: &'a str) -> Ar
         .help(help)
 }
 
-/// Adds the folder, the address of the request port, what is handled there, and the ports of
-/// transfers.
-fn with_folder_and_ports<'a>(alloc: Global, command: Command<'a>) -> Result<Command<'a>>
-    ensures { (app : App) → IsApp app command.entry
-        → IfOk result (IsApp (with_folder_and_ports app)) }
+/// The arguments for the folder, the address of the request port, what is handled there, and the
+/// ports of transfers.
+fn folder_and_ports<'a>(alloc: Global) -> Result<Vec<Arg<'a>>, AllocError>
+    ensures { IfOk result (λ args. HaveRules folder_and_ports args.items) }
 {
     let root = word(alloc, ROOT, "The folder whose files are served");
-    let command = command.arg(root)?;
-    let command = command.arg(listen(alloc))?;
     let requests_only = flag(
         alloc,
         REQUESTS_ONLY,
         "Drops what arrives at the request port and begins neither as RRQ nor as WRQ, without an ERROR",
     );
-    let command = command.arg(requests_only)?;
     let ports = option(
         alloc,
         PORTS,
         "A:B",
         "UDP ports of transfers, A to B, each drawn at random",
     );
-    Ok(command.arg(ports)?)
+    Ok(vec![in alloc; root, listen(alloc), requests_only, ports]?)
 }
 
 /// The argument for the address of the request port, which may be given again.
@@ -167,18 +161,20 @@ fn listen<'a>(alloc: Global) -> Arg<'a>
         .action(ArgAction::Append)
 }
 
-/// Adds the limits of transfers.
-fn with_limits<'a>(alloc: Global, command: Command<'a>, texts: &'a Texts) -> Result<Command<'a>>
-    ensures { (app : App) → IsApp app command.entry → IfOk result (IsApp (with_limits app)) }
+/// The arguments for the limits of transfers.
+fn limits<'a>(alloc: Global, texts: &'a Texts) -> Result<Vec<Arg<'a>>, AllocError>
+    ensures { IfOk result (λ args. HaveRules limits args.items) }
 {
-    let command = command.arg(max_block(alloc, texts))?;
-    let command = command.arg(max_file(alloc, texts))?;
-    let command = command.arg(retries(alloc, texts))?;
-    let command = command.arg(backoff(alloc))?;
-    let command = command.arg(cap(alloc, texts))?;
-    let command = command.arg(per_client(alloc))?;
-    let command = command.arg(longest(alloc))?;
-    Ok(command.arg(length_memory(alloc))?)
+    Ok(vec![in alloc;
+        max_block(alloc, texts),
+        max_file(alloc, texts),
+        retries(alloc, texts),
+        backoff(alloc),
+        cap(alloc, texts),
+        per_client(alloc),
+        longest(alloc),
+        length_memory(alloc),
+    ]?)
 }
 
 /// The argument for the largest block size (RFC 2348, "Blocksize Option Specification").
@@ -292,46 +288,42 @@ fn length_memory<'a>(alloc: Global) -> Arg<'a>
     length_memory.default_value("12582912")
 }
 
-/// Adds the options of writes.
-fn with_writes<'a>(alloc: Global, command: Command<'a>) -> Result<Command<'a>>
-    ensures { (app : App) → IsApp app command.entry → IfOk result (IsApp (with_writes app)) }
+/// The arguments for writes, and for when the server ends.
+fn writes_and_ending<'a>(alloc: Global) -> Result<Vec<Arg<'a>>, AllocError>
+    ensures { IfOk result (λ args. HaveRules writes_and_ending args.items) }
 {
     let overwrite = flag(alloc, "overwrite", "A write replaces a file that is there");
-    let command = command.arg(overwrite)?;
     let read_only = flag(
         alloc,
         READ_ONLY,
         "Refuses every write as an access violation (ERROR 2), and touches no file for it",
     );
-    let command = command.arg(read_only)?;
     let uploads = option(
         alloc,
         UPLOADS,
         "FOLDER",
         "Takes writes below this folder of ROOT alone, and makes its temporary files there",
     );
-    Ok(command.arg(uploads)?)
-}
-
-/// Adds when the server ends.
-fn with_ending<'a>(alloc: Global, command: Command<'a>) -> Result<Command<'a>>
-    ensures { (app : App) → IsApp app command.entry → IfOk result (IsApp (with_ending app)) }
-{
-    let command = command.arg(transfers(alloc))?;
-    let command = command.arg(rounds(alloc))?;
     let forever = flag(
         alloc,
         FOREVER,
         "Ends by no count of transfers or waits; not beside --transfers or --rounds",
     );
-    let command = command.arg(forever)?;
     let drain = option(
         alloc,
         DRAIN,
         "FILE",
         "Takes no new request once this file is there, and ends when no transfer is open",
     );
-    Ok(command.arg(drain)?)
+    Ok(vec![in alloc;
+        overwrite,
+        read_only,
+        uploads,
+        transfers(alloc),
+        rounds(alloc),
+        forever,
+        drain,
+    ]?)
 }
 
 /// The argument for the number of closed transfers.
@@ -364,12 +356,28 @@ fn rounds<'a>(alloc: Global) -> Arg<'a>
     rounds.default_value("1000000")
 }
 
-/// Adds the number of servers, and which of them this is.
-fn with_servers<'a>(alloc: Global, command: Command<'a>) -> Result<Command<'a>>
-    ensures { (app : App) → IsApp app command.entry → IfOk result (IsApp (with_servers app)) }
+/// The arguments for the number of servers, which of them this is, what is logged, and what is
+/// counted.
+fn servers_and_log<'a>(alloc: Global) -> Result<Vec<Arg<'a>>, AllocError>
+    ensures { IfOk result (λ args. HaveRules servers_and_log args.items) }
 {
-    let command = command.arg(servers(alloc))?;
-    Ok(command.arg(server(alloc))?)
+    let log = flag(
+        alloc,
+        LOG,
+        "Writes a line on standard error for each request and each close",
+    );
+    let log_time = flag(
+        alloc,
+        LOG_TIME,
+        "Begins each line of --log with its time in UTC, to the millisecond",
+    );
+    let status = option(
+        alloc,
+        STATUS,
+        "FILE",
+        "Writes what the server has counted to this file, once a second at most, for Prometheus and people",
+    );
+    Ok(vec![in alloc; servers(alloc), server(alloc), log, log_time, status]?)
 }
 
 /// The argument for the number of servers.
@@ -396,29 +404,4 @@ fn server<'a>(alloc: Global) -> Arg<'a>
         value_parser!(u8).range(1..=64),
         "Internal: number of this server of several, passed by --servers; with --listen stdin",
     )
-}
-
-/// Adds what is logged, and what is counted.
-fn with_log<'a>(alloc: Global, command: Command<'a>) -> Result<Command<'a>>
-    ensures { (app : App) → IsApp app command.entry → IfOk result (IsApp (with_log app)) }
-{
-    let log = flag(
-        alloc,
-        LOG,
-        "Writes a line on standard error for each request and each close",
-    );
-    let command = command.arg(log)?;
-    let log_time = flag(
-        alloc,
-        LOG_TIME,
-        "Begins each line of --log with its time in UTC, to the millisecond",
-    );
-    let command = command.arg(log_time)?;
-    let status = option(
-        alloc,
-        STATUS,
-        "FILE",
-        "Writes what the server has counted to this file, once a second at most, for Prometheus and people",
-    );
-    Ok(command.arg(status)?)
 }

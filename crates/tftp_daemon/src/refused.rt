@@ -22,7 +22,6 @@ use crate::options::{
 };
 use crate::shown::Shown;
 use crate::status::{draft_of, is_drain, names_file};
-use anyhow::Result;
 use clap::error::ErrorKind;
 use clap::{ArgMatches, Command};
 use std::alloc::{AllocError, Global};
@@ -310,7 +309,7 @@ pub(crate) fn report_addresses<P: Print + Eprint>(
     alloc: Global,
     command: &mut Command<'_>,
     matches: &ArgMatches<'_>,
-) -> Result<u8>
+) -> Result<u8, AllocError>
     ensures { IfOk result (λ status. status ≡ 2) }
 {
     match faulty_address(matches) {
@@ -324,7 +323,7 @@ pub(crate) fn report_conflict<P: Print + Eprint>(
     rt: &P,
     command: &mut Command<'_>,
     message: &str,
-) -> Result<u8>
+) -> Result<u8, AllocError>
     ensures { IfOk result (λ status. status ≡ 2) }
 {
     let error = command.error(ErrorKind::ArgumentConflict, message)?;
@@ -338,7 +337,7 @@ pub(crate) fn report_invalid<P: Print + Eprint>(
     command: &mut Command<'_>,
     word: Option<&str>,
     why: &str,
-) -> Result<u8>
+) -> Result<u8, AllocError>
     ensures { IfOk result (λ status. status ≡ 2) }
 {
     let word = Shown(word.unwrap_or(""));
