@@ -62,12 +62,11 @@ fn play_syntax<'a>(alloc: Global) -> Result<Command<'a>, AllocError> {
         .value_name("FILE")
         .help("Draws the run as a sequence diagram into this file");
     let events = flag(alloc, "events", "Prints the event beside each -");
+    let arguments = vec![in alloc; script, svg, events]?;
     Command::new(alloc, "tftp-play")
         .about("Plays a script of TFTP transfers over a lossy network in memory")
         .version(VERSION)
-        .arg(script)?
-        .arg(svg)?
-        .arg(events)
+        .args(arguments)
 }
 
 /// Plays the script in the file at the path, or on standard input.

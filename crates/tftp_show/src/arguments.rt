@@ -57,59 +57,67 @@ pub fn show_words<R: Runtime + AllocGlobal, S: AsStr, E: Write + Drop>(
     }
 }
 
-/// The command line of `tftp-show`.
+/// The command line of `tftp-show`: what is read, how it is printed, and of what it is printed or
+/// drawn.
 fn show_syntax<'a>(alloc: Global) -> Result<Command<'a>, AllocError> {
-    let file = Arg::new(alloc, "FILE").help("A capture, or lines; standard input if there is none");
-    let command = Command::new(alloc, "tftp-show")
+    let svg = svg(alloc)?;
+    let arguments = vec![in alloc;
+        Arg::new(alloc, "FILE").help("A capture, or lines; standard input if there is none"),
+        flag(
+            alloc,
+            "flow",
+            "Prints what happened in each transfer, when it is over"
+        ),
+        flag(
+            alloc,
+            "follow",
+            "Prints a line as a transfer begins, and one as it ends"
+        ),
+        flag(
+            alloc,
+            "json",
+            "Prints an object of JSON for each transfer, when it is over"
+        ),
+        svg,
+        transfer(alloc),
+        port(alloc),
+    ]?;
+    Command::new(alloc, "tftp-show")
         .about("Prints TFTP datagrams of a capture, or of lines of hexadecimal digits")
         .version(VERSION)
         .after_help(EXAMPLES)
-        .arg(file)?;
-    with_selection(alloc, with_styles(alloc, command)?)
+        .args(arguments)
 }
 
-/// Adds what is printed.
-fn with_styles<'a>(alloc: Global, command: Command<'a>) -> Result<Command<'a>, AllocError> {
-    let flow = flag(
-        alloc,
-        "flow",
-        "Prints what happened in each transfer, when it is over",
-    );
-    let follow = flag(
-        alloc,
-        "follow",
-        "Prints a line as a transfer begins, and one as it ends",
-    );
-    let json = flag(
-        alloc,
-        "json",
-        "Prints an object of JSON for each transfer, when it is over",
-    );
-    command.arg(flow)?.arg(follow)?.arg(json)
-}
-
-/// Adds of what it is printed or drawn.
-fn with_selection<'a>(alloc: Global, command: Command<'a>) -> Result<Command<'a>, AllocError> {
+/// The argument for the file into which a transfer is drawn.
+fn svg<'a>(alloc: Global) -> Result<Arg<'a>, AllocError> {
     let svg = Arg::new(alloc, "svg")
         .long("svg")
         .value_name("FILE")
-        .requires_arg("flow")?
         .help("Draws a transfer as a sequence diagram into this file");
-    let transfer = number(
+    svg.requires_arg("flow")
+}
+
+/// The argument for the number of a transfer.
+fn transfer<'a>(alloc: Global) -> Arg<'a> {
+    number(
         alloc,
         "transfer",
         "N",
         value_parser!(u32).range(1..),
         "The transfer that is drawn or alone printed, by its number in the report",
-    );
-    let port = number(
+    )
+}
+
+/// The argument for the port of requests.
+fn port<'a>(alloc: Global) -> Arg<'a> {
+    number(
         alloc,
         "port",
         "1-65535",
         value_parser!(u16).range(1..),
         "The port of requests in a capture [default: 69]",
-    );
-    command.arg(svg)?.arg(transfer)?.arg(port)
+    )
 }
 
 /// Shows packets, or the transfers of a capture.
