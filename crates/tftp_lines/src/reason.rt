@@ -2,7 +2,7 @@
 
 ghost use Rattle.std.specs.Prelude.{◌≡◌};
 ghost use Rattle.std.specs.IoError.{raw_os_error};
-ghost use Rattle.tftp_lines.specs.Reason.{reason_of, reason_of_number};
+ghost use Rattle.tftp_lines.specs.Reason.{reason_of, reason_of_number, reason_words};
 
 use std::{fmt, io};
 
@@ -180,6 +180,70 @@ fn reason_of_number(number: u32) -> Reason
     }
 }
 
+impl Reason {
+    /// The words of a reason; those of an error that has only a number lack the number.
+    fn words(self) -> &'static str
+        ensures { result.now ≡ reason_words self }
+    {
+        match self {
+            Reason::NoSpace => "no space",
+            Reason::QuotaExceeded => "quota exceeded",
+            Reason::FileTooLarge => "file too large",
+            Reason::TooManyOpenFiles => "too many open files",
+            Reason::PermissionDenied => "permission denied",
+            Reason::ReadOnlyFileSystem => "read-only file system",
+            Reason::AnotherDevice => "another device",
+            Reason::OutOfMemory => "out of memory",
+            Reason::InputOutput => "input or output error",
+            Reason::NotFound => "not found",
+            Reason::NotAFolder => "not a folder",
+            Reason::InvalidArgument => "invalid argument",
+            Reason::BrokenPipe => "broken pipe",
+            Reason::NameTooLong => "name too long",
+            Reason::TooManyLinks => "too many links",
+            Reason::MessageTooLong => "message too long",
+            Reason::AddressInUse => "address in use",
+            Reason::AddressNotAvailable => "address not available",
+            Reason::NetworkDown => "network down",
+            Reason::NetworkUnreachable => "network unreachable",
+            Reason::NoBufferSpace => "no buffer space",
+            Reason::ConnectionRefused => "connection refused",
+            Reason::HostUnreachable => "host unreachable",
+            Reason::Interrupted => "interrupted",
+            Reason::NoDevice => "no such device",
+            Reason::TryAgain => "temporarily unavailable",
+            Reason::Busy => "busy",
+            Reason::FileExists => "file exists",
+            Reason::IsAFolder => "is a folder",
+            Reason::ProgramRuns => "program runs",
+            Reason::NotSupported => "not supported",
+            Reason::FolderNotEmpty => "folder not empty",
+            Reason::ValueTooLarge => "value too large",
+            Reason::NoAddressFamily => "address family not supported",
+            Reason::TimedOut => "timed out",
+            Reason::HostDown => "host down",
+            Reason::StaleFile => "stale file",
+            Reason::DamagedFileSystem => "damaged file system",
+            Reason::DraftReplaced => "draft replaced",
+            Reason::FileReplaced => "file replaced",
+            Reason::NameLocked => "name locked",
+            Reason::FolderReplaced => "folder replaced",
+            Reason::LeadsOut => "leads out of the folder",
+            Reason::ThroughLink => "through a link",
+            Reason::FileCut => "file cut short",
+            Reason::NoFolder => "no such folder",
+            Reason::NotAFile => "not a file",
+            Reason::ReadOnlyServer => "read-only server",
+            Reason::NotInUploads => "not in uploads",
+            Reason::LengthUnknown => "length unknown",
+            Reason::NameNotAllowed => "name not allowed",
+            Reason::LongerThanMaxFile => "longer than --max-file",
+            Reason::System(_) => "system error",
+            Reason::Other => "another error",
+        }
+    }
+}
+
 impl fmt::Display for Reason {
     ghost use Rattle.std.specs.Prelude.{Some};
     ghost use Rattle.tftp_lines.specs.Reason.{reason_text};
@@ -187,61 +251,10 @@ impl fmt::Display for Reason {
     ghost output = { λ reason. Some (reason_text reason) };
 
     fn fmt<W: fmt::Write>(&self, f: &mut fmt::Formatter<W>) -> fmt::Result {
+        let words = self.words();
         match *self {
-            Reason::NoSpace => f.write_str("no space"),
-            Reason::QuotaExceeded => f.write_str("quota exceeded"),
-            Reason::FileTooLarge => f.write_str("file too large"),
-            Reason::TooManyOpenFiles => f.write_str("too many open files"),
-            Reason::PermissionDenied => f.write_str("permission denied"),
-            Reason::ReadOnlyFileSystem => f.write_str("read-only file system"),
-            Reason::AnotherDevice => f.write_str("another device"),
-            Reason::OutOfMemory => f.write_str("out of memory"),
-            Reason::InputOutput => f.write_str("input or output error"),
-            Reason::NotFound => f.write_str("not found"),
-            Reason::NotAFolder => f.write_str("not a folder"),
-            Reason::InvalidArgument => f.write_str("invalid argument"),
-            Reason::BrokenPipe => f.write_str("broken pipe"),
-            Reason::NameTooLong => f.write_str("name too long"),
-            Reason::TooManyLinks => f.write_str("too many links"),
-            Reason::MessageTooLong => f.write_str("message too long"),
-            Reason::AddressInUse => f.write_str("address in use"),
-            Reason::AddressNotAvailable => f.write_str("address not available"),
-            Reason::NetworkDown => f.write_str("network down"),
-            Reason::NetworkUnreachable => f.write_str("network unreachable"),
-            Reason::NoBufferSpace => f.write_str("no buffer space"),
-            Reason::ConnectionRefused => f.write_str("connection refused"),
-            Reason::HostUnreachable => f.write_str("host unreachable"),
-            Reason::Interrupted => f.write_str("interrupted"),
-            Reason::NoDevice => f.write_str("no such device"),
-            Reason::TryAgain => f.write_str("temporarily unavailable"),
-            Reason::Busy => f.write_str("busy"),
-            Reason::FileExists => f.write_str("file exists"),
-            Reason::IsAFolder => f.write_str("is a folder"),
-            Reason::ProgramRuns => f.write_str("program runs"),
-            Reason::NotSupported => f.write_str("not supported"),
-            Reason::FolderNotEmpty => f.write_str("folder not empty"),
-            Reason::ValueTooLarge => f.write_str("value too large"),
-            Reason::NoAddressFamily => f.write_str("address family not supported"),
-            Reason::TimedOut => f.write_str("timed out"),
-            Reason::HostDown => f.write_str("host down"),
-            Reason::StaleFile => f.write_str("stale file"),
-            Reason::DamagedFileSystem => f.write_str("damaged file system"),
-            Reason::DraftReplaced => f.write_str("draft replaced"),
-            Reason::FileReplaced => f.write_str("file replaced"),
-            Reason::NameLocked => f.write_str("name locked"),
-            Reason::FolderReplaced => f.write_str("folder replaced"),
-            Reason::LeadsOut => f.write_str("leads out of the folder"),
-            Reason::ThroughLink => f.write_str("through a link"),
-            Reason::FileCut => f.write_str("file cut short"),
-            Reason::NoFolder => f.write_str("no such folder"),
-            Reason::NotAFile => f.write_str("not a file"),
-            Reason::ReadOnlyServer => f.write_str("read-only server"),
-            Reason::NotInUploads => f.write_str("not in uploads"),
-            Reason::LengthUnknown => f.write_str("length unknown"),
-            Reason::NameNotAllowed => f.write_str("name not allowed"),
-            Reason::LongerThanMaxFile => f.write_str("longer than --max-file"),
-            Reason::System(number) => write!(f, "system error {number}"),
-            Reason::Other => f.write_str("another error"),
+            Reason::System(number) => write!(f, "{words} {number}"),
+            _ => f.write_str(words),
         }
     }
 }
