@@ -1,8 +1,9 @@
 -- Commands, setting by setting and argument by argument.
-use Rattle.std.proofs.Common.{◌≡◌, ◌∙◌, Bool, List, ℕ, Option, ap}
+use Rattle.std.proofs.Common.{◌≡◌, ◌∙◌, Bool, List, [], ◌∷◌, ℕ, Option, Result, IfOk, ap, subst}
+use Rattle.std.proofs.lemmas.Result.{IfOk-weaker}
 use Rattle.std.specs.Prelude.{◌||◌}
 use Rattle.std.proofs.Math.Path.{fun_ext}
-use Rattle.clap.specs.Built.{AddsArg}
+use Rattle.clap.specs.Built.{AddsArg, AddsInTurn}
 use Rattle.clap.specs.Matches.{found_of}
 use Rattle.clap.specs.Simple.{App, app_of, app_of_fields, with_rule}
 use Rattle.clap.specs.Walk.{Rule, first_of, rows_of}
@@ -13,7 +14,7 @@ use Rattle.clap.specs.declared.builder.command.Command.TheViews.{out-Command as 
 use Rattle.clap.proofs.WalkLemmas.{first_value-rows, one_text-rows}
 use Rattle.tftp_arguments.specs.Commands.{CommandsGrow, MatchesAreRows}
 use Rattle.tftp_arguments.specs.Read.{ReadWords, value_text}
-use Rattle.tftp_arguments.specs.Rules.{HasRule, IsApp}
+use Rattle.tftp_arguments.specs.Rules.{HasRule, HaveRules, IsApp, with_rules}
 
 changed : {app : App} {old new : Command} (change : App → App) (fields : Command-F Command)
     → IsApp app old → fields_of new ≡ fields → app_of_fields fields ≡ change (app_of old)
@@ -40,6 +41,22 @@ commands_grow =
       stays = λ fields is now same local. changed (λ (x : App). x) fields is now same local;
       adds = λ is has adds. added is has adds;
     }
+
+-- arguments with these rules were added in turn
+pub rules_added : {app : App} {old new : Command} (have : List Rule) (args : List Arg) → IsApp app old
+    → HaveRules have args → AddsInTurn AddsArg old args new → IsApp (with_rules app have) new
+rules_added {app = app} [] [] is has adds = subst (IsApp app) adds is
+rules_added [] (arg ∷ args) is has adds = absurd has
+rules_added (rule ∷ have) [] is has adds = absurd has
+rules_added (rule ∷ have) (arg ∷ args) is has adds =
+    rules_added have args (commands_grow.adds is has.0 adds.1) has.1 adds.2
+
+-- the same by the last call
+pub rules_added_last : {E : Type 0} {app : App} {old : Command} (added : Result Command E) (have : List Rule)
+    (args : List Arg) → IsApp app old → HaveRules have args → IfOk added (AddsInTurn AddsArg old args)
+    → IfOk added (IsApp (with_rules app have))
+rules_added_last {app = app} {old = old} added have args is has = IfOk-weaker added (AddsInTurn AddsArg old args)
+    (IsApp (with_rules app have)) (λ new. rules_added have args is has)
 
 pub matches_are_rows : MatchesAreRows
 matches_are_rows m =

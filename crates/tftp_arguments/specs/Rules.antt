@@ -1,6 +1,6 @@
 -- The arguments of a command line, as `clap` parses them (own).
-use Rattle.std.specs.Prelude.{ℕ, ◌≡◌, true, false, List, [], ◌∷◌, Some, pos}
-use Rattle.clap.specs.Simple.{App, app_of, new_rule}
+use Rattle.std.specs.Prelude.{ℕ, ⊤, ◌≡◌, true, false, List, [], ◌∷◌, Some, pos}
+use Rattle.clap.specs.Simple.{App, app_of, new_rule, with_rule}
 use Rattle.clap.specs.Walk.{Rule, rule_of}
 use Rattle.clap.specs.declared.builder.action.ArgAction.TheVariants.{SetTrue}
 use Rattle.clap.specs.declared.builder.arg.Arg.{Arg}
@@ -39,3 +39,15 @@ pub record HasRule (rule : Rule) (a : Arg) : Type 0 where
 pub record IsApp (app : App) (command : Command) : Type 0 where
   pub app_is : app_of command ≡ app
   pub is_local : (fields_of command).has_globals ≡ false
+
+-- the arguments have these rules, each its own
+abbrev pub HaveRules : List Rule → List Arg → Type 0
+HaveRules [] [] = ⊤
+HaveRules (rule ∷ rules) (arg ∷ args) = HasRule rule arg × HaveRules rules args
+HaveRules [] (arg ∷ args) = ⊥
+HaveRules (rule ∷ rules) [] = ⊥
+
+-- with arguments of these rules, in turn
+abbrev pub with_rules : App → List Rule → App
+with_rules app [] = app
+with_rules app (rule ∷ rules) = with_rules (with_rule app rule) rules

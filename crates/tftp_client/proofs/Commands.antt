@@ -1,14 +1,13 @@
 -- The command line, subcommand by subcommand, and the job that its matches name.
-use Rattle.tftp_client.proofs.Common.{◌≡◌, commands_grow, true, List, [], ◌∷◌, Option, Result, IfOk-weaker, Some, refl, subst, App, Kind, IsApp, Job, tftp_app}
+use Rattle.tftp_client.proofs.Common.{◌≡◌, true, List, Option, Result, IfOk-weaker, Some, refl, subst, App, Kind, IsApp, Job, tftp_app}
 use Rattle.std.proofs.Common.{IfOk, option_map, rules}
 use Rattle.std.specs.Prelude.{Box}
 use Rattle.std.specs.Box.{box_value}
-use Rattle.clap.specs.Built.{AddsArg, AddsInTurn, AddsSubcommand}
+use Rattle.clap.specs.Built.{AddsSubcommand}
 use Rattle.clap.specs.Faults.{is_simple_and_free}
 use Rattle.clap.specs.Matches.{found_of}
 use Rattle.clap.specs.Simple.{is_simple, subcommand_rows, with_subcommand}
-use Rattle.clap.specs.Walk.{Row, Rule, Text, rows_of}
-use Rattle.clap.specs.declared.builder.arg.Arg.{Arg}
+use Rattle.clap.specs.Walk.{Row, Text, rows_of}
 use Rattle.clap.specs.declared.builder.command.Command.{Command}
 use Rattle.clap.specs.declared.parser.matches.ArgMatches.{ArgMatches}
 use Rattle.clap.specs.declared.parser.matches.ArgMatches.TheViews.{out-SubCommand}
@@ -16,7 +15,7 @@ use Rattle.clap.specs.declared.parser.matches.SubCommand.{SubCommand}
 use Rattle.tftp_arguments.specs.Read.{ReadWords, read_in, read_of}
 use Rattle.tftp_arguments.proofs.Commands.{matches_are_rows}
 use Rattle.tftp_client.specs.CommandLine.{NamesJob, kind_named}
-use Rattle.tftp_client.specs.Words.{HaveRules, NamesBy, with_rules}
+use Rattle.tftp_client.specs.Words.{NamesBy}
 
 -- the command line is one whose matches are known
 pub simple : is_simple tftp_app ≡ true
@@ -25,22 +24,6 @@ simple = refl
 -- no argument has a rule on another
 pub free : is_simple_and_free tftp_app ≡ true
 free = refl
-
--- arguments with these rules were added in turn
-pub rules_added : {app : App} {old new : Command} (have : List Rule) (args : List Arg) → IsApp app old
-    → HaveRules have args → AddsInTurn AddsArg old args new → IsApp (with_rules app have) new
-rules_added {app = app} [] [] is has adds = subst (IsApp app) adds is
-rules_added [] (arg ∷ args) is has adds = absurd has
-rules_added (rule ∷ have) [] is has adds = absurd has
-rules_added (rule ∷ have) (arg ∷ args) is has adds =
-    rules_added have args (commands_grow.adds is has.0 adds.1) has.1 adds.2
-
--- the same by the last call
-pub rules_added_last : {E : Type 0} {app : App} {old : Command} (added : Result Command E) (have : List Rule)
-    (args : List Arg) → IsApp app old → HaveRules have args → IfOk added (AddsInTurn AddsArg old args)
-    → IfOk added (IsApp (with_rules app have))
-rules_added_last {app = app} {old = old} added have args is has = IfOk-weaker added (AddsInTurn AddsArg old args)
-    (IsApp (with_rules app have)) (λ new. rules_added have args is has)
 
 -- a subcommand was added
 pub subcommand_added : {app below : App} {old sub new : Command} → IsApp app old → IsApp below sub

@@ -1,26 +1,13 @@
 -- The job that the words of a command line name (own).
-use Rattle.std.specs.Prelude.{ℕ, ⊤, true, List, [], ◌∷◌, codes, Option, Some, None}
+use Rattle.std.specs.Prelude.{ℕ, true, List, [], ◌∷◌, codes, Option, Some, None}
 use Rattle.clap.specs.Simple.{App, new_app, subcommand_of, with_rule, with_subcommand}
 use Rattle.clap.specs.Walk.{Row, Rule}
-use Rattle.clap.specs.declared.builder.arg.Arg.{Arg}
 use Rattle.tftp_arguments.specs.Read.{read_in}
-use Rattle.tftp_arguments.specs.Rules.{HasRule, by_default, flag_rule, within, word_rule}
+use Rattle.tftp_arguments.specs.Rules.{by_default, flag_rule, within, with_rules, word_rule}
 use Rattle.tftp_client.specs.declared.transfer.Job.{Job}
 use Rattle.tftp_client.specs.CommandLine.{NamesJob, kind_named}
 
 -- ---- the command line
--- the arguments have these rules, each its own
-abbrev pub HaveRules : List Rule → List Arg → Type 0
-HaveRules [] [] = ⊤
-HaveRules (rule ∷ rules) (arg ∷ args) = HasRule rule arg × HaveRules rules args
-HaveRules [] (arg ∷ args) = ⊥
-HaveRules (rule ∷ rules) [] = ⊥
-
--- with arguments of these rules, in turn
-abbrev pub with_rules : App → List Rule → App
-with_rules app [] = app
-with_rules app (rule ∷ rules) = with_rules (with_rule app rule) rules
-
 -- the options of a transfer; those from `blksize` to `tsize` are requested from the server
 -- (RFC 2348, "Blocksize Option Specification"; RFC 2349)
 abbrev pub option_rules : List Rule

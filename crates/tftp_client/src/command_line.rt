@@ -9,12 +9,12 @@ ghost use Rattle.tftp_disk.specs.declared.existing.Existing.TheVariants.{Refused
 ghost use Rattle.tftp_arguments.specs.Fault.{AskForText};
 ghost use Rattle.tftp_ends.specs.declared.backoff.Backoff.TheVariants.{Constant, Doubling};
 ghost use Rattle.tftp_arguments.specs.Read.{IsChosen, read_of, value_text};
-ghost use Rattle.tftp_arguments.specs.Rules.{HasRule, IsApp, by_default, flag_rule, within};
-ghost use Rattle.tftp_arguments.specs.Rules.{word_rule};
+ghost use Rattle.tftp_arguments.specs.Rules.{HasRule, HaveRules, IsApp, by_default, flag_rule};
+ghost use Rattle.tftp_arguments.specs.Rules.{within, word_rule};
 ghost use Rattle.tftp_sockets.specs.Address.{Names};
 ghost use Rattle.tftp_client.specs.CommandLine.{AsksAs, IfExit, IfRun, NamesJob, kind_named};
 ghost use Rattle.tftp_client.specs.Words.{NamesBy, WordsName, bare_app, get_app, put_app, tftp_app};
-ghost use Rattle.tftp_client.specs.Words.{HaveRules, option_rules};
+ghost use Rattle.tftp_client.specs.Words.{option_rules};
 
 use crate::transfer::{Job, Progress};
 use clap::error::ErrorKind;

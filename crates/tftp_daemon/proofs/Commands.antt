@@ -1,25 +1,20 @@
 -- The command line and the configuration that its matches name.
-use Rattle.std.proofs.Common.{◌≡◌, ◌∙◌, ℕ, List, [], ◌∷◌, Option, Result, IfOk, Some, None, true, refl, ap, subst, codes}
-use Rattle.std.proofs.lemmas.Result.{IfOk-weaker}
+use Rattle.std.proofs.Common.{◌≡◌, ◌∙◌, ℕ, List, [], ◌∷◌, Option, Some, None, true, refl, ap, subst, codes}
 use Rattle.std.specs.Prelude.{find, option_map}
 use Rattle.std.specs.Option.{option_map_or}
 use Rattle.std.specs.Str.{bytes_eq}
-use Rattle.clap.specs.Built.{AddsArg, AddsInTurn}
 use Rattle.clap.specs.Facts.{Entry}
 use Rattle.clap.specs.Faults.{is_simple_and_free}
 use Rattle.clap.specs.Matches.{found_of, raw_values}
-use Rattle.clap.specs.Simple.{App, is_simple}
-use Rattle.clap.specs.Walk.{Row, Rule, row_of, rows_of}
-use Rattle.clap.specs.declared.builder.arg.Arg.{Arg}
-use Rattle.clap.specs.declared.builder.command.Command.{Command}
+use Rattle.clap.specs.Simple.{is_simple}
+use Rattle.clap.specs.Walk.{Row, row_of, rows_of}
 use Rattle.clap.specs.declared.parser.matches.Found.{Found}
 use Rattle.clap.proofs.WalkLemmas.{find-map}
 use Rattle.clap.specs.declared.parser.matches.ArgMatches.{ArgMatches}
 use Rattle.tftp_arguments.specs.Read.{ReadWords, read_in, read_of}
-use Rattle.tftp_arguments.specs.Rules.{IsApp}
-use Rattle.tftp_arguments.proofs.Commands.{commands_grow, matches_are_rows}
+use Rattle.tftp_arguments.proofs.Commands.{matches_are_rows}
 use Rattle.tftp_daemon.specs.CommandLine.{NamesInRows, NamesServer, words_in, words_of}
-use Rattle.tftp_daemon.specs.Words.{HaveRules, tftpd_app, with_rules}
+use Rattle.tftp_daemon.specs.Words.{tftpd_app}
 use Rattle.tftp_daemon.specs.declared.daemon.DaemonConfig.{DaemonConfig}
 
 -- the command line is one whose matches are known
@@ -29,22 +24,6 @@ simple = refl
 -- no argument has a rule on another
 pub free : is_simple_and_free tftpd_app ≡ true
 free = refl
-
--- arguments with these rules were added in turn
-pub rules_added : {app : App} {old new : Command} (have : List Rule) (args : List Arg) → IsApp app old
-    → HaveRules have args → AddsInTurn AddsArg old args new → IsApp (with_rules app have) new
-rules_added {app = app} [] [] is has adds = subst (IsApp app) adds is
-rules_added [] (arg ∷ args) is has adds = absurd has
-rules_added (rule ∷ have) [] is has adds = absurd has
-rules_added (rule ∷ have) (arg ∷ args) is has adds =
-    rules_added have args (commands_grow.adds is has.0 adds.1) has.1 adds.2
-
--- the same by the last call
-pub rules_added_last : {E : Type 0} {app : App} {old : Command} (added : Result Command E) (have : List Rule)
-    (args : List Arg) → IsApp app old → HaveRules have args → IfOk added (AddsInTurn AddsArg old args)
-    → IfOk added (IsApp (with_rules app have))
-rules_added_last {app = app} {old = old} added have args is has = IfOk-weaker added (AddsInTurn AddsArg old args)
-    (IsApp (with_rules app have)) (λ new. rules_added have args is has)
 
 -- the words of an option, by their row
 pub words_by_rows : (found : Found) (id : List ℕ) → words_of found id ≡ words_in (rows_of found) id

@@ -1,14 +1,13 @@
 -- The configuration that the words of a command line name (own).
-use Rattle.std.specs.Prelude.{ℕ, ⊤, true, List, [], ◌∷◌, codes, Some}
+use Rattle.std.specs.Prelude.{ℕ, true, List, [], ◌∷◌, codes, Some}
 use Rattle.std.specs.Fmt.{decimal}
 use Rattle.clap.specs.Simple.{App, matches_of, new_app, new_rule, on_top, with_rule}
 use Rattle.clap.specs.Walk.{Rule}
 use Rattle.clap.specs.declared.builder.action.ArgAction.TheVariants.{Append}
-use Rattle.clap.specs.declared.builder.arg.Arg.{Arg}
 use Rattle.clap.specs.declared.builder.value_parser.ValueParser.TheVariants as parsers
 use Rattle.tftp_server.specs.Config.{default_config}
-use Rattle.tftp_arguments.specs.Rules.{HasRule, by_default, flag_rule, number_rule, within}
-use Rattle.tftp_arguments.specs.Rules.{word_rule}
+use Rattle.tftp_arguments.specs.Rules.{by_default, flag_rule, number_rule, within}
+use Rattle.tftp_arguments.specs.Rules.{with_rules, word_rule}
 use Rattle.tftp_daemon.specs.CommandLine.{StartsInRows}
 use Rattle.tftp_daemon.specs.Refused.{Configures}
 use Rattle.tftp_daemon.specs.declared.daemon.DaemonConfig.{DaemonConfig}
@@ -25,18 +24,6 @@ any_number id = number_rule id (parsers.Unsigned 0 18446744073709551615)
 -- an option with a word, which may be given again
 abbrev pub repeated : Rule → Rule
 repeated rule = record rule { action = Some Append }
-
--- the arguments have these rules, each its own
-abbrev pub HaveRules : List Rule → List Arg → Type 0
-HaveRules [] [] = ⊤
-HaveRules (rule ∷ rules) (arg ∷ args) = HasRule rule arg × HaveRules rules args
-HaveRules [] (arg ∷ args) = ⊥
-HaveRules (rule ∷ rules) [] = ⊥
-
--- with arguments of these rules, in turn
-abbrev pub with_rules : App → List Rule → App
-with_rules app [] = app
-with_rules app (rule ∷ rules) = with_rules (with_rule app rule) rules
 
 -- the folder, the address of the request port, what is handled there, and the ports of transfers
 abbrev pub folder_and_ports : List Rule

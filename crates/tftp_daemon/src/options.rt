@@ -4,9 +4,10 @@ ghost use Rattle.std.specs.Prelude.{◌≡◌, codes, IfOk};
 ghost use Rattle.std.specs.Fmt.{decimal};
 ghost use Rattle.std.specs.String.{string_bytes};
 ghost use Rattle.tftp_server.specs.Config.{default_config};
-ghost use Rattle.tftp_arguments.specs.Rules.{HasRule, IsApp, by_default, flag_rule, within};
+ghost use Rattle.tftp_arguments.specs.Rules.{HasRule, HaveRules, IsApp, by_default, flag_rule};
+ghost use Rattle.tftp_arguments.specs.Rules.{within};
 ghost use Rattle.tftp_daemon.specs.Words.{any_number, bare_app, option_rule, repeated, tftpd_app};
-ghost use Rattle.tftp_daemon.specs.Words.{HaveRules, folder_and_ports, limits, servers_and_log};
+ghost use Rattle.tftp_daemon.specs.Words.{folder_and_ports, limits, servers_and_log};
 ghost use Rattle.tftp_daemon.specs.Words.{writes_and_ending};
 
 use clap::{Arg, ArgAction, Command, value_parser};

@@ -1,7 +1,8 @@
 -- The words, the options of a transfer, and the flags of this subcommand.
 use Rattle.tftp_client.proofs.Common.{codes, refl, subst, sym, [], ◌∷◌, new_app, IsApp, commands_grow}
-use Rattle.tftp_client.specs.Words.{HaveRules, get_flags, get_words, option_rules}
-use Rattle.tftp_client.proofs.Commands.{rules_added, rules_added_last}
+use Rattle.tftp_arguments.specs.Rules.{HaveRules}
+use Rattle.tftp_client.specs.Words.{get_flags, get_words, option_rules}
+use Rattle.tftp_arguments.proofs.Commands.{rules_added, rules_added_last}
 use Rattle.tftp_client.proofs.command_line.get_command.Goals as goal
 
 pub returns : goal.returns

@@ -1,7 +1,8 @@
 -- The words, and the options of a transfer.
 use Rattle.tftp_client.proofs.Common.{codes, refl, subst, sym, [], ◌∷◌, new_app, IsApp, commands_grow}
-use Rattle.tftp_client.specs.Words.{HaveRules, option_rules, put_words}
-use Rattle.tftp_client.proofs.Commands.{rules_added, rules_added_last}
+use Rattle.tftp_arguments.specs.Rules.{HaveRules}
+use Rattle.tftp_client.specs.Words.{option_rules, put_words}
+use Rattle.tftp_arguments.proofs.Commands.{rules_added, rules_added_last}
 use Rattle.tftp_client.proofs.command_line.put_command.Goals as goal
 
 pub returns : goal.returns

@@ -1,6 +1,6 @@
 -- Part by part.
 use Rattle.tftp_daemon.specs.Words.{folder_and_ports, limits, servers_and_log, writes_and_ending}
-use Rattle.tftp_daemon.proofs.Commands.{rules_added, rules_added_last}
+use Rattle.tftp_arguments.proofs.Commands.{rules_added, rules_added_last}
 use Rattle.tftp_daemon.proofs.options.command.Goals as goal
 
 pub returns : goal.returns
