@@ -19,11 +19,12 @@ use Rattle.tftp_wire.specs.Reading.{has_error_opcode}
 use Rattle.tftp_ends.specs.Step.{error_bytes}
 use Rattle.tftp_ends.specs.declared.endpoint.Endpoint.{Endpoint}
 use Rattle.tftp_ends.specs.declared.error_reply.ErrorReply.{ErrorReply}
+use Rattle.tftp_server.specs.declared.config.Config.{Config}
 use Rattle.tftp_server.specs.declared.fault.ServerFault.{ServerFault}
 use Rattle.tftp_server.specs.declared.opened.Opened.{Opened}
 use Rattle.tftp_server.specs.declared.server.admission.PortAction.{PortAction}
 use Rattle.tftp_server.specs.Port.{Ask, Ignores, IsAnsweredBy, Refuses, asks, begin_reply, unopened_by}
-use Rattle.tftp_server.specs.Request.{Acts, Admits, CarriesOut, Came, Error_reply, A_transfer, IsRequest, AsksToWrite}
+use Rattle.tftp_server.specs.Request.{Acts, Admits, CarriesOut, Goes, RequestStep, Came, Error_reply, A_transfer, IsRequest, AsksToWrite}
 use Rattle.tftp_server.specs.Request.{Decides, ask_of, left_by}
 use Rattle.tftp_server.specs.declared.server.reply.Unopened.{Unopened}
 use Rattle.tftp_server.specs.declared.server.reply.Unopened.TheVariants as unopened
@@ -34,6 +35,11 @@ use Rattle.tftp_store.specs.Store.{StoreMeaning, Begins}
 pub cut_off : (before sent all cut : List ℕ) (start : ℕ) → start ≡ length before → all ≡ before ++ sent →
     cut ≡ take start all → cut ≡ before ++ []
 cut_off before sent all cut start s a c = grind (arith, common_steps)
+
+-- so that it is as it was
+pub cut_back : (before sent all cut : List ℕ) (start : ℕ) → start ≡ length before → all ≡ before ++ sent →
+    cut ≡ take start all → cut ≡ before
+cut_back before sent all cut start s a c = rw append-nil at (cut_off before sent all cut start s a c)
 
 -- whether a datagram repeats a request, in the server that this one is
 pub repeats_in : {S F D : Type 0} (old seen : ServerState S F D) (from : Endpoint) (repeated : Bool)
@@ -106,6 +112,69 @@ module _ {S F D : Type 0} (meaning : StoreMeaning S D) (sources : SourceMeaning 
     },
   )
   refuses tid ask reply before after (Err fault) is opened_is ok = tt
+
+-- a datagram that the port admitted is handled as its admission is carried out
+pub requested : {S F D E : Type 0} (meaning : StoreMeaning S D) (sources : SourceMeaning F) (old new : ServerState S F D)
+    (from : Endpoint) (bytes : List ℕ) (tid : ℕ) (ask : Ask) (before after : List ℕ) (r : Result Opened E) →
+    Admits old from bytes ask →
+    IfOk r (λ opened. (sent : List ℕ) × (after ≡ before ++ sent) × CarriesOut meaning sources old from bytes ask tid
+    (record { new = new; opened = opened; sent = sent })) →
+    IfOk r (λ opened. (sent : List ℕ) × (after ≡ before ++ sent) × RequestStep meaning sources old from bytes tid
+    (record { new = new; opened = opened; sent = sent }))
+requested meaning sources old new from bytes tid ask before after (Ok opened) admits h = (
+  h.0,
+  h.1,
+  record {
+    decoded = admits.decoded;
+    says = admits.says;
+    repeated = admits.repeated;
+    repeats = admits.repeats;
+    came = h.2.came;
+    goes = rw (← admits.asks_for) h.2.goes;
+    left = h.2.left;
+  },
+)
+requested meaning sources old new from bytes tid ask before after (Err fault) admits h = tt
+
+-- the server is as it was if the table is
+pub not_held : {S F D : Type 0} (config : Config) (store : S) (held held' : List (ℕ × TransferState F D))
+    (before cut : List ℕ) → held' ≡ held → cut ≡ before →
+    (◌≡◌ {A = ServerState S F D} (record { config = config; store = store; held = held' })
+    (record { config = config; store = store; held = held })) × (cut ≡ before)
+not_held config store held held' before cut same back = (rw same refl, back)
+
+-- what comes of a request whose file is opened or begun
+module _ {S F D : Type 0} (meaning : StoreMeaning S D) (sources : SourceMeaning F) (old new : ServerState S F D)
+    (from : Endpoint) (bytes : List ℕ) (tid : ℕ) (before after : List ℕ) (Came_so : Came S F D → Type 0) where
+  abbrev Carried : Opened → Type 0
+  Carried opened =
+      (came : Came S F D) × (sent : List ℕ) × Came_so came × (after ≡ before ++ sent)
+      × (record { new = new; opened = opened; sent = sent } ≡ left_by came old from tid)
+
+  pub carried : {E : Type 0} (ask : Ask) (r : Result Opened E) →
+      ((came : Came S F D) → Came_so came → Goes meaning sources old from bytes ask came) → IfOk r Carried →
+      IfOk r (λ opened. (sent : List ℕ) × (after ≡ before ++ sent) × CarriesOut meaning sources old from bytes ask tid
+      (record { new = new; opened = opened; sent = sent }))
+  carried ask (Ok opened) goes h = (h.1, h.3, record { came = h.0; goes = goes h.0 h.2; left = h.4 })
+  carried ask (Err fault) goes h = tt
+
+  -- a read opens a transfer, which is held
+  pub read_opened : (transfer : TransferState F D) → Came_so (A_transfer transfer old.store) →
+      after ≡ before ++ transfer.end.position.last_sent →
+      new ≡ record old { held = with_new tid transfer old.held } →
+      Carried (record { tid = Some tid; to = Some from })
+  read_opened transfer came sent is =
+      (A_transfer transfer old.store, transfer.end.position.last_sent, came, sent, rw is refl)
+
+  -- or none, and an ERROR is sent
+  pub read_refused : {E : Type 0} (Lacks : Type 0) (mid : List ℕ) (why : Unopened) (r : Result Opened E) → new ≡ old →
+      Decides (Err why) old.store Came_so Lacks → mid ≡ before ++ [] →
+      IfOk r (λ opened. opened ≡ record { tid = None; to = Some from }) →
+      OnOk r (IsAnsweredBy why (λ reply. after ≡ mid ++ error_bytes reply)) → IfOk r Carried
+  read_refused Lacks mid (unopened.Refused reply) (Ok opened) same came none opened_is ok =
+      (Error_reply reply old.store, error_bytes reply, came, rw (ok, none, append-nil) refl, rw (same, opened_is) refl)
+  read_refused Lacks mid unopened.Memory (Ok opened) same came none opened_is ok = absurd ok
+  read_refused Lacks mid why (Err fault) same came none opened_is ok = tt
 
 -- if no draft is begun, the ERROR has its capacity
 pub in_room : {T U E : Type 0} (why : Unopened) (was mid : List ℕ) (most capacity : ℕ) (r : Result U E) →
