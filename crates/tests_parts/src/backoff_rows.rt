@@ -1,7 +1,8 @@
 //! How long an end waits, timeout by timeout (RFC 1123, section 4.2.3.2; RFC 2349, "Timeout Interval
 //! Option Specification").
 
-use crate::open_end::Event::{Arrives, TimesOut, Waits};
+use crate::open_end::Event::{Arrives, Shows, TimesOut};
+use crate::open_end::Fact::Waits;
 use crate::open_end::{
     ACK_0, CONFIG, Opening, PROGRESS, SERVER, SERVER_END, STAYS, Scene, play_each,
 };
@@ -31,17 +32,17 @@ static SCENES: [Scene; 3] = [
         opening: GET,
         sends: (RRQ, SERVER),
         events: &[
-            Waits(Backoff::Doubling, 1),
+            Shows(Waits(Backoff::Doubling, 1)),
             TimesOut(RRQ, SERVER, STAYS),
-            Waits(Backoff::Doubling, 2),
+            Shows(Waits(Backoff::Doubling, 2)),
             TimesOut(RRQ, SERVER, STAYS),
-            Waits(Backoff::Doubling, 4),
+            Shows(Waits(Backoff::Doubling, 4)),
             TimesOut(RRQ, SERVER, STAYS),
-            Waits(Backoff::Doubling, 8),
+            Shows(Waits(Backoff::Doubling, 8)),
             TimesOut(RRQ, SERVER, STAYS),
-            Waits(Backoff::Doubling, 8),
+            Shows(Waits(Backoff::Doubling, 8)),
             TimesOut(RRQ, SERVER, STAYS),
-            Waits(Backoff::Doubling, 8),
+            Shows(Waits(Backoff::Doubling, 8)),
         ],
     },
     Scene {
@@ -49,17 +50,17 @@ static SCENES: [Scene; 3] = [
         opening: GET,
         sends: (RRQ, SERVER),
         events: &[
-            Waits(Backoff::Constant, 1),
+            Shows(Waits(Backoff::Constant, 1)),
             TimesOut(RRQ, SERVER, STAYS),
-            Waits(Backoff::Constant, 1),
+            Shows(Waits(Backoff::Constant, 1)),
             TimesOut(RRQ, SERVER, STAYS),
-            Waits(Backoff::Constant, 1),
+            Shows(Waits(Backoff::Constant, 1)),
             TimesOut(RRQ, SERVER, STAYS),
-            Waits(Backoff::Constant, 1),
+            Shows(Waits(Backoff::Constant, 1)),
             TimesOut(RRQ, SERVER, STAYS),
-            Waits(Backoff::Constant, 1),
+            Shows(Waits(Backoff::Constant, 1)),
             TimesOut(RRQ, SERVER, STAYS),
-            Waits(Backoff::Constant, 1),
+            Shows(Waits(Backoff::Constant, 1)),
         ],
     },
     // Progress begins again at one interval, which is the agreed one then.
@@ -69,17 +70,17 @@ static SCENES: [Scene; 3] = [
         sends: (RRQ, SERVER),
         events: &[
             TimesOut(RRQ, SERVER, STAYS),
-            Waits(Backoff::Doubling, 2),
+            Shows(Waits(Backoff::Doubling, 2)),
             Arrives(SERVER_END, OACK, ACK_0, PROGRESS),
-            Waits(Backoff::Doubling, 3),
+            Shows(Waits(Backoff::Doubling, 3)),
             TimesOut(ACK_0, SERVER_END, STAYS),
-            Waits(Backoff::Doubling, 6),
+            Shows(Waits(Backoff::Doubling, 6)),
             TimesOut(ACK_0, SERVER_END, STAYS),
-            Waits(Backoff::Doubling, 12),
+            Shows(Waits(Backoff::Doubling, 12)),
             TimesOut(ACK_0, SERVER_END, STAYS),
-            Waits(Backoff::Doubling, 24),
+            Shows(Waits(Backoff::Doubling, 24)),
             TimesOut(ACK_0, SERVER_END, STAYS),
-            Waits(Backoff::Doubling, 24),
+            Shows(Waits(Backoff::Doubling, 24)),
             TimesOut(ACK_0, SERVER_END, STAYS),
         ],
     },

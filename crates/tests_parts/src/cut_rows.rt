@@ -26,42 +26,18 @@ fn split<'a>(rng: &mut Pcg32, text: &'a [u8]) -> (&'a [u8], &'a [u8]) {
     text.split_at(at.min(text.len()))
 }
 
-/// Encodes the next piece, and returns the rest.
-fn encode_piece<'a>(
-    rt: &impl Abort,
-    rng: &mut Pcg32,
-    encoder: &mut NetEncoder,
-    text: &'a [u8],
-    wire: &mut Vec<u8>,
-) -> &'a [u8] {
-    let (piece, rest) = split(rng, text);
-    encoder.push(piece, wire).expect(rt, "memory");
-    rest
-}
-
 fn encoded(rt: &impl Abort, alloc: Global, rng: &mut Pcg32, text: &[u8]) -> Vec<u8> {
     let mut encoder = NetEncoder::new();
     let mut wire = Vec::new(alloc);
     let mut left = text;
     for _ in 0..20 {
-        left = encode_piece(rt, rng, &mut encoder, left, &mut wire);
+        let (piece, rest) = split(rng, left);
+        encoder.push(piece, &mut wire).expect(rt, "memory");
+        left = rest;
     }
     encoder.push(left, &mut wire).expect(rt, "memory");
     encoder.finish().expect(rt, "the end of the text");
     wire
-}
-
-/// Decodes the next piece, and returns the rest.
-fn decode_piece<'a>(
-    rt: &impl Abort,
-    rng: &mut Pcg32,
-    decoder: &mut NetDecoder,
-    wire: &'a [u8],
-    text: &mut Vec<u8>,
-) -> &'a [u8] {
-    let (piece, rest) = split(rng, wire);
-    decoder.push(piece, text).expect(rt, "wire text");
-    rest
 }
 
 fn decoded(rt: &impl Abort, alloc: Global, rng: &mut Pcg32, wire: &[u8]) -> Vec<u8> {
@@ -69,7 +45,9 @@ fn decoded(rt: &impl Abort, alloc: Global, rng: &mut Pcg32, wire: &[u8]) -> Vec<
     let mut text = Vec::new(alloc);
     let mut left = wire;
     for _ in 0..40 {
-        left = decode_piece(rt, rng, &mut decoder, left, &mut text);
+        let (piece, rest) = split(rng, left);
+        decoder.push(piece, &mut text).expect(rt, "wire text");
+        left = rest;
     }
     decoder.push(left, &mut text).expect(rt, "wire text");
     decoder.finish().expect(rt, "the end of the text");
@@ -77,16 +55,13 @@ fn decoded(rt: &impl Abort, alloc: Global, rng: &mut Pcg32, wire: &[u8]) -> Vec<
 }
 
 /// Decoding the wire text of a text gives the text again.
-fn is_kept(rt: &impl Abort, alloc: Global, rng: &mut Pcg32, seed: u64, text: &[u8]) {
-    let wire = encoded(rt, alloc, rng, text);
-    let back = decoded(rt, alloc, rng, wire.as_slice());
-    expect_equal(rt, &(seed, back.as_slice()), &(seed, text), "by a seed");
-}
-
 fn comes_back(rt: &impl Abort, alloc: Global, seed: u64) {
     let mut rng = Pcg32::seed_from_u64(seed);
     let text = drawn(rt, alloc, &mut rng);
-    is_kept(rt, alloc, &mut rng, seed, text.as_slice());
+    let wire = encoded(rt, alloc, &mut rng, text.as_slice());
+    let back = decoded(rt, alloc, &mut rng, wire.as_slice());
+    let found = (seed, back.as_slice());
+    expect_equal(rt, &found, &(seed, text.as_slice()), "by a seed");
 }
 
 #[test]

@@ -2,7 +2,8 @@
 //! sections 4 to 6 and appendix I.
 
 use crate::expect::expect_equal;
-use crate::open_end::Event::{Arrives, Holds, Reports, TimesOut};
+use crate::open_end::Event::{Arrives, Shows, TimesOut};
+use crate::open_end::Fact::{Holds, Reports};
 use crate::open_end::{
     ACK_1, ACK_2, ASKED_TO_READ, CLIENT, COMPLETES, CONFIG, DATA_1, EMPTY_DATA_2, FULL_DATA_1,
     NOTHING, Opening, PROGRESS, REFUSED, RRQ_A, SERVER, SERVER_END, STAYS, Scene, play_each,
@@ -41,7 +42,7 @@ static SCENES: [Scene; 6] = [
         name: "a request has no peer before the first answer",
         opening: Opening::Get(b"boot.img", Mode::Octet, NOTHING, CONFIG),
         sends: (b"\x00\x01boot.img\x00octet\x00", SERVER),
-        events: &[Reports(ASKED_TO_READ)],
+        events: &[Shows(Reports(ASKED_TO_READ))],
     },
     // A file of one full block ends with an empty DATA (RFC 1350, section 6). A repeated ACK is
     // ignored (RFC 1123, section 4.2.3.1). A datagram from another endpoint is answered by ERROR 5,
@@ -55,7 +56,7 @@ static SCENES: [Scene; 6] = [
             Arrives(CLIENT, ACK_1, EMPTY_DATA_2, PROGRESS),
             Arrives(CLIENT, ACK_1, b"", STAYS),
             Arrives(CLIENT, ACK_2, b"", COMPLETES),
-            Reports(SENT),
+            Shows(Reports(SENT)),
         ],
     },
     Scene {
@@ -76,8 +77,8 @@ static SCENES: [Scene; 6] = [
         sends: (RRQ_A, SERVER),
         events: &[
             Arrives(SERVER_END, DATA_1, ACK_1, PROGRESS),
-            Reports(RECEIVED),
-            Holds(b"ABC", true),
+            Shows(Reports(RECEIVED)),
+            Shows(Holds(b"ABC", true)),
         ],
     },
     // A dally closes at its second timeout (RFC 1350, section 6).

@@ -2,7 +2,8 @@
 //! `tftp_ends`.
 
 use crate::expect::expect_equal;
-use crate::open_end::Event::{Lends, LendsAfterTimeout, Lent, Waits};
+use crate::open_end::Event::{Lends, LendsAfterTimeout, Shows};
+use crate::open_end::Fact::{Lent, Waits};
 use crate::open_end::{
     ACK_1, CONFIG, DATA_1, EIGHT, NOTHING, Opening, PROGRESS, REFUSED, RRQ_A, SERVER, STAYS, Scene,
     play_each,
@@ -36,9 +37,9 @@ static SCENES: [Scene; 4] = [
         opening: GET_A,
         sends: (RRQ_A, SERVER),
         events: &[
-            Lent(Outgoing::LastSent, RRQ_A),
-            Lent(Outgoing::Nothing, b""),
-            Lent(Outgoing::Error(ErrorReply::UnknownTransferId), UNKNOWN_ID),
+            Shows(Lent(Outgoing::LastSent, RRQ_A)),
+            Shows(Lent(Outgoing::Nothing, b"")),
+            Shows(Lent(Outgoing::Error(ErrorReply::UnknownTransferId), UNKNOWN_ID)),
         ],
     },
     // The interval is a second where no timeout is agreed.
@@ -48,7 +49,7 @@ static SCENES: [Scene; 4] = [
         sends: (RRQ_A, SERVER),
         events: &[
             Lends(SERVER, DATA_1, ACK_1, PROGRESS),
-            Waits(Backoff::Constant, 1),
+            Shows(Waits(Backoff::Constant, 1)),
         ],
     },
     // A datagram from another address is answered by ERROR 5 (RFC 1350, section 4), and the request
@@ -59,7 +60,7 @@ static SCENES: [Scene; 4] = [
         sends: (RRQ_A, SERVER),
         events: &[
             Lends(STRANGER, ACK_1, UNKNOWN_ID, STAYS),
-            Lent(Outgoing::LastSent, RRQ_A),
+            Shows(Lent(Outgoing::LastSent, RRQ_A)),
         ],
     },
     // The end closes without a datagram, and stays closed.

@@ -2,7 +2,9 @@
 //! sections 4 to 6 and appendix I, RFC 764 and RFC 2347.
 
 use crate::expect::expect_equal;
-use crate::open_end::Event::{Arrives, Holds, Keeps, Reports};
+use crate::netascii_rows::LONG_LINE;
+use crate::open_end::Event::{Arrives, Shows};
+use crate::open_end::Fact::{Holds, Keeps, Reports};
 use crate::open_end::{
     ACK_0, ACK_1, ACK_2, ASKED_TO_READ, CLIENT, CONFIG, EIGHT, NOTHING, OACK_8, Opening, PROGRESS,
     SERVER, SERVER_END, Scene, Then, WHOLE, WRQ_8, open, play_each, round,
@@ -43,7 +45,7 @@ static WRONG: [Scene; 4] = [
                 ERROR_NOT_NETASCII,
                 NEW_PEER,
             ),
-            Holds(b"", false),
+            Shows(Holds(b"", false)),
         ],
     },
     Scene {
@@ -57,7 +59,7 @@ static WRONG: [Scene; 4] = [
                 ERROR_NOT_NETASCII,
                 NEW_PEER,
             ),
-            Holds(b"", false),
+            Shows(Holds(b"", false)),
         ],
     },
     Scene {
@@ -71,7 +73,7 @@ static WRONG: [Scene; 4] = [
                 ERROR_NOT_NETASCII,
                 NEW_PEER,
             ),
-            Holds(b"", false),
+            Shows(Holds(b"", false)),
         ],
     },
     Scene {
@@ -85,7 +87,7 @@ static WRONG: [Scene; 4] = [
                 ERROR_NOT_NETASCII,
                 NEW_PEER,
             ),
-            Holds(b"", false),
+            Shows(Holds(b"", false)),
         ],
     },
 ];
@@ -111,12 +113,12 @@ static CUTS: [Scene; 5] = [
         events: &[
             Arrives(SERVER_END, OACK_8, ACK_0, PROGRESS),
             Arrives(SERVER_END, CUT_DATA_1, ACK_1, PROGRESS),
-            Keeps(Held {
+            Shows(Keeps(Held {
                 datagram: 4,
                 text: 1,
-            }),
-            Holds(b"AAAAAAA", false),
-            Reports(CUT),
+            })),
+            Shows(Holds(b"AAAAAAA", false)),
+            Shows(Reports(CUT)),
         ],
     },
     Scene {
@@ -127,12 +129,12 @@ static CUTS: [Scene; 5] = [
             Arrives(SERVER_END, OACK_8, ACK_0, PROGRESS),
             Arrives(SERVER_END, CUT_DATA_1, ACK_1, PROGRESS),
             Arrives(SERVER_END, b"\x00\x03\x00\x02\nB", ACK_2, PROGRESS),
-            Holds(b"AAAAAAA\nB", true),
-            Reports(Record {
+            Shows(Holds(b"AAAAAAA\nB", true)),
+            Shows(Reports(Record {
                 number: 2,
                 complete: true,
                 ..CUT
-            }),
+            })),
         ],
     },
     Scene {
@@ -143,12 +145,12 @@ static CUTS: [Scene; 5] = [
             Arrives(SERVER_END, OACK_8, ACK_0, PROGRESS),
             Arrives(SERVER_END, CUT_DATA_1, ACK_1, PROGRESS),
             Arrives(SERVER_END, b"\x00\x03\x00\x02\0", ACK_2, PROGRESS),
-            Holds(b"AAAAAAA\r", true),
-            Reports(Record {
+            Shows(Holds(b"AAAAAAA\r", true)),
+            Shows(Reports(Record {
                 number: 2,
                 complete: true,
                 ..CUT
-            }),
+            })),
         ],
     },
     Scene {
@@ -164,7 +166,7 @@ static CUTS: [Scene; 5] = [
                 ERROR_NOT_NETASCII,
                 NOT_NETASCII,
             ),
-            Holds(b"AAAAAAA", false),
+            Shows(Holds(b"AAAAAAA", false)),
         ],
     },
     Scene {
@@ -180,7 +182,7 @@ static CUTS: [Scene; 5] = [
                 ERROR_NOT_NETASCII,
                 NOT_NETASCII,
             ),
-            Holds(b"AAAAAAA", false),
+            Shows(Holds(b"AAAAAAA", false)),
         ],
     },
 ];
@@ -193,10 +195,10 @@ static SENDERS: [Scene; 3] = [
         sends: (WRQ_8, SERVER),
         events: &[
             Arrives(SERVER_END, OACK_8, b"\x00\x03\x00\x01ABCDEFGH", PROGRESS),
-            Keeps(Held {
+            Shows(Keeps(Held {
                 datagram: 12,
                 text: 0,
-            }),
+            })),
         ],
     },
     // The length is returned in octet only. In netascii `tsize` is ignored, and the answer is
@@ -219,17 +221,6 @@ static SENDERS: [Scene; 3] = [
         events: &[],
     },
 ];
-
-/// 511 letters, of which 73 are on a line, and a line feed: 513 bytes of wire text.
-const LONG_LINE: &[u8] = b"\
-AAAAAAAAAAAAAAAAAAAAAAAAAAAAAAAAAAAAAAAAAAAAAAAAAAAAAAAAAAAAAAAAAAAAAAAAA\
-AAAAAAAAAAAAAAAAAAAAAAAAAAAAAAAAAAAAAAAAAAAAAAAAAAAAAAAAAAAAAAAAAAAAAAAAA\
-AAAAAAAAAAAAAAAAAAAAAAAAAAAAAAAAAAAAAAAAAAAAAAAAAAAAAAAAAAAAAAAAAAAAAAAAA\
-AAAAAAAAAAAAAAAAAAAAAAAAAAAAAAAAAAAAAAAAAAAAAAAAAAAAAAAAAAAAAAAAAAAAAAAAA\
-AAAAAAAAAAAAAAAAAAAAAAAAAAAAAAAAAAAAAAAAAAAAAAAAAAAAAAAAAAAAAAAAAAAAAAAAA\
-AAAAAAAAAAAAAAAAAAAAAAAAAAAAAAAAAAAAAAAAAAAAAAAAAAAAAAAAAAAAAAAAAAAAAAAAA\
-AAAAAAAAAAAAAAAAAAAAAAAAAAAAAAAAAAAAAAAAAAAAAAAAAAAAAAAAAAAAAAAAAAAAAAAAA\
-\n";
 
 /// A file of at most two blocks and how a server sends it: what is stored after DATA 1, whether
 /// that is committed, and how many datagrams the read takes.

@@ -10,42 +10,74 @@ use tftp_file::{
 use tftp_wire::Mode;
 
 /// Host bytes and their wire text, by hand: a line feed is encoded as CR LF, a CR as CR NUL.
-static TEXTS: [(&[u8], &[u8]); 6] = [
+static TEXTS: [(&[u8], &[u8]); 7] = [
     (b"", b""),
     (b"A", b"A"),
     (b"\n", b"\r\n"),
     (b"\r", b"\r\0"),
     (b"\r\nA", b"\r\0\r\nA"),
     (b"a\0b\nc\rd", b"a\0b\r\nc\r\0d"),
+    (LONG_LINE, LONG_WIRE),
 ];
 
-/// The decoder appends the host bytes of the piece.
-fn store(rt: &impl Abort, decoder: &mut NetDecoder, piece: &[u8], out: &mut Vec<u8>) {
-    decoder.push(piece, out).expect(rt, "wire text");
-}
+/// 511 letters, of which 73 are on a line here, and a line feed.
+pub(crate) const LONG_LINE: &[u8] = b"\
+AAAAAAAAAAAAAAAAAAAAAAAAAAAAAAAAAAAAAAAAAAAAAAAAAAAAAAAAAAAAAAAAAAAAAAAAA\
+AAAAAAAAAAAAAAAAAAAAAAAAAAAAAAAAAAAAAAAAAAAAAAAAAAAAAAAAAAAAAAAAAAAAAAAAA\
+AAAAAAAAAAAAAAAAAAAAAAAAAAAAAAAAAAAAAAAAAAAAAAAAAAAAAAAAAAAAAAAAAAAAAAAAA\
+AAAAAAAAAAAAAAAAAAAAAAAAAAAAAAAAAAAAAAAAAAAAAAAAAAAAAAAAAAAAAAAAAAAAAAAAA\
+AAAAAAAAAAAAAAAAAAAAAAAAAAAAAAAAAAAAAAAAAAAAAAAAAAAAAAAAAAAAAAAAAAAAAAAAA\
+AAAAAAAAAAAAAAAAAAAAAAAAAAAAAAAAAAAAAAAAAAAAAAAAAAAAAAAAAAAAAAAAAAAAAAAAA\
+AAAAAAAAAAAAAAAAAAAAAAAAAAAAAAAAAAAAAAAAAAAAAAAAAAAAAAAAAAAAAAAAAAAAAAAAA\
+\n";
+
+/// The wire text of it, of 513 bytes: the letters, CR and LF.
+const LONG_WIRE: &[u8] = b"\
+AAAAAAAAAAAAAAAAAAAAAAAAAAAAAAAAAAAAAAAAAAAAAAAAAAAAAAAAAAAAAAAAAAAAAAAAA\
+AAAAAAAAAAAAAAAAAAAAAAAAAAAAAAAAAAAAAAAAAAAAAAAAAAAAAAAAAAAAAAAAAAAAAAAAA\
+AAAAAAAAAAAAAAAAAAAAAAAAAAAAAAAAAAAAAAAAAAAAAAAAAAAAAAAAAAAAAAAAAAAAAAAAA\
+AAAAAAAAAAAAAAAAAAAAAAAAAAAAAAAAAAAAAAAAAAAAAAAAAAAAAAAAAAAAAAAAAAAAAAAAA\
+AAAAAAAAAAAAAAAAAAAAAAAAAAAAAAAAAAAAAAAAAAAAAAAAAAAAAAAAAAAAAAAAAAAAAAAAA\
+AAAAAAAAAAAAAAAAAAAAAAAAAAAAAAAAAAAAAAAAAAAAAAAAAAAAAAAAAAAAAAAAAAAAAAAAA\
+AAAAAAAAAAAAAAAAAAAAAAAAAAAAAAAAAAAAAAAAAAAAAAAAAAAAAAAAAAAAAAAAAAAAAAAAA\
+\r\n";
 
 fn is_sent_as(rt: &impl Abort, alloc: Global, host: &[u8], wire: &[u8]) {
     let mut sent = Vec::new(alloc);
     let mut encoder = NetEncoder::new();
     encoder.push(host, &mut sent).expect(rt, "memory");
-    expect_equal(rt, &encoder.finish(), &Ok(()), "the end of the text");
+    encoder.finish().expect(rt, "the end of the text");
     expect_bytes(rt, sent.as_slice(), wire, "encoded");
 }
 
-/// A decoder stores these host bytes for a wire text in these pieces.
-fn is_stored_as(rt: &impl Abort, alloc: Global, pieces: &[&[u8]], host: &[u8]) {
+/// A decoder stores these host bytes for a wire text in two pieces.
+fn is_stored_as(rt: &impl Abort, alloc: Global, (front, rest): (&[u8], &[u8]), host: &[u8]) {
     let mut stored = Vec::new(alloc);
     let mut decoder = NetDecoder::new();
-    for piece in pieces {
-        store(rt, &mut decoder, piece, &mut stored);
-    }
-    let found = (pieces, stored.as_slice(), decoder.finish());
-    expect_equal(rt, &found, &(pieces, host, Ok(())), "decoded, to its end");
+    decoder.push(front, &mut stored).expect(rt, "wire text");
+    decoder.push(rest, &mut stored).expect(rt, "wire text");
+    let found = (front, stored.as_slice(), decoder.finish());
+    expect_equal(rt, &found, &(front, host, Ok(())), "decoded, to its end");
 }
 
+/// The text is encoded so, and decoded at every cut of its wire text. Its length on the wire is that
+/// of the wire text in netascii.
 fn goes_both_ways(rt: &impl Abort, alloc: Global, host: &[u8], wire: &[u8]) {
     is_sent_as(rt, alloc, host, wire);
-    is_stored_as(rt, alloc, &[wire], host);
+    for at in 0..wire.len() + 1 {
+        is_stored_as(rt, alloc, wire.split_at(at), host);
+    }
+    let lengths = (
+        wire_length(host, Mode::Octet),
+        wire_length(host, Mode::Netascii),
+    );
+    let expected = (Ok(host.len() as u64), Ok(wire.len() as u64));
+    expect_equal(
+        rt,
+        &(host, lengths),
+        &(host, expected),
+        "octet and netascii",
+    );
 }
 
 #[test]
@@ -62,24 +94,15 @@ static PIECES: [(&[u8], &[u8], usize); 3] = [
     (b"\nA", b"\r\nA", 0),
 ];
 
-/// A decoder stores the piece, and then has stored these bytes and holds back `held` bytes.
-fn stores_and_holds(
-    rt: &impl Abort,
-    decoder: &mut NetDecoder,
-    out: &mut Vec<u8>,
-    piece: &[u8],
-    (stored, held): (&[u8], usize),
-) {
-    store(rt, decoder, piece, out);
-    let found = (piece, out.as_slice(), decoder.held());
-    expect_equal(rt, &found, &(piece, stored, held), "stored and held");
-}
-
-fn is_stored_in_pieces(rt: &impl Abort, alloc: Global) {
+#[test]
+fn pieces_are_stored_and_held(rt: HostRuntime) {
+    let rt = &rt;
     let mut decoder = NetDecoder::new();
-    let mut out = Vec::new(alloc);
+    let mut out = Vec::new(rt.alloc());
     for &(piece, stored, held) in &PIECES {
-        stores_and_holds(rt, &mut decoder, &mut out, piece, (stored, held));
+        decoder.push(piece, &mut out).expect(rt, "wire text");
+        let found = (piece, out.as_slice(), decoder.held());
+        expect_equal(rt, &found, &(piece, stored, held), "stored and held");
     }
     expect_equal(rt, &decoder.finish(), &Ok(()), "the end");
 }
@@ -94,15 +117,12 @@ static WRONG: [(&[u8], &[u8], NetFault); 5] = [
 ];
 
 /// The decoder, which has stored `A`, refuses the text with this fault, and is unchanged.
-fn refuses(
-    rt: &impl Abort,
-    decoder: &mut NetDecoder,
-    out: &mut Vec<u8>,
-    wrong: &[u8],
-    fault: NetFault,
-) {
+fn is_refused(rt: &impl Abort, alloc: Global, front: &[u8], wrong: &[u8], fault: NetFault) {
+    let mut decoder = NetDecoder::new();
+    let mut out = Vec::new(alloc);
+    decoder.push(front, &mut out).expect(rt, "wire text");
     let held = decoder.held();
-    let answer = decoder.push(wrong, out);
+    let answer = decoder.push(wrong, &mut out);
     let found = (wrong, answer, out.as_slice(), decoder.held());
     let expected = (wrong, Err(fault), b"A".as_slice(), held);
     expect_equal(
@@ -111,13 +131,6 @@ fn refuses(
         &expected,
         "the fault, and what is stored and held",
     );
-}
-
-fn is_refused(rt: &impl Abort, alloc: Global, front: &[u8], wrong: &[u8], fault: NetFault) {
-    let mut decoder = NetDecoder::new();
-    let mut out = Vec::new(alloc);
-    store(rt, &mut decoder, front, &mut out);
-    refuses(rt, &mut decoder, &mut out, wrong, fault);
 }
 
 #[test]
@@ -131,70 +144,10 @@ fn wrong_texts_change_nothing(rt: HostRuntime) {
 fn a_text_ends_in_no_cr(rt: HostRuntime) {
     let rt = &rt;
     let mut decoder = NetDecoder::new();
-    store(rt, &mut decoder, b"A\r", &mut Vec::new(rt.alloc()));
+    let stored = decoder.push(b"A\r", &mut Vec::new(rt.alloc()));
     let fault = NetFault::EndsInCr;
-    expect_equal(rt, &decoder.finish(), &Err(fault), "CR at the end");
-    expect_equal(rt, &fault.number(), &3, "the number of the fault");
-}
-
-/// 511 letters and a line feed, which are 513 bytes of wire text.
-fn long_line(rt: &impl Abort, alloc: Global) -> Vec<u8> {
-    let mut host = vec![in alloc; b'A'; 511].expect(rt, "memory");
-    host.push(b'\n').expect(rt, "memory");
-    host
-}
-
-/// The wire text of such a line: the letters, CR and LF.
-fn long_wire_text(rt: &impl Abort, alloc: Global) -> Vec<u8> {
-    let mut wire = vec![in alloc; b'A'; 511].expect(rt, "memory");
-    wire.extend_from_slice(b"\r\n").expect(rt, "memory");
-    wire
-}
-
-fn is_stored_at_every_cut(rt: &impl Abort, alloc: Global, wire: &[u8], host: &[u8]) {
-    expect_equal(rt, &wire.len(), &513, "the length on the wire");
-    for at in 0..=513 {
-        let (front, rest) = wire.split_at(at);
-        is_stored_as(rt, alloc, &[front, rest], host);
-    }
-}
-
-#[test]
-fn every_cut(rt: HostRuntime) {
-    let rt = &rt;
-    let host = long_line(rt, rt.alloc());
-    let wire = long_wire_text(rt, rt.alloc());
-    is_sent_as(rt, rt.alloc(), &host, &wire);
-    is_stored_at_every_cut(rt, rt.alloc(), &wire, &host);
-}
-
-fn has_length(rt: &impl Abort, host: &[u8], mode: Mode, expected: usize) {
-    let length = wire_length(host, mode);
-    expect_equal(
-        rt,
-        &(host, length),
-        &(host, Ok(expected as u64)),
-        mode.word(),
-    );
-}
-
-/// A text in pieces, and lengths on the wire of three files.
-#[test]
-fn netascii_rows(rt: HostRuntime) {
-    let rt = &rt;
-    is_sent_as(rt, rt.alloc(), b"\r\nA", b"\r\0\r\nA");
-    is_stored_in_pieces(rt, rt.alloc());
-    has_length(rt, b"\r\nA", Mode::Netascii, 5);
-    has_length(rt, &[b'\n'; 256], Mode::Netascii, 512);
-    has_length(rt, &long_line(rt, rt.alloc()), Mode::Netascii, 513);
-}
-
-#[test]
-fn lengths_on_the_wire(rt: HostRuntime) {
-    for &(host, wire) in &TEXTS {
-        has_length(&rt, host, Mode::Octet, host.len());
-        has_length(&rt, host, Mode::Netascii, wire.len());
-    }
+    let found = (stored, decoder.finish(), fault.number());
+    expect_equal(rt, &found, &(Ok(()), Err(fault), 3), "CR at the end");
 }
 
 /// A text, its mode, the limit, and the length.
@@ -208,14 +161,11 @@ static WITHIN: [(&[u8], Mode, u64, u64); 4] = [
 #[test]
 fn lengths_within_a_limit(rt: HostRuntime) {
     for &(bytes, mode, most, expected) in &WITHIN {
-        let length = wire_length_within(bytes, mode, most);
-        expect_equal(
-            &rt,
-            &(mode, most, length),
-            &(mode, most, expected),
-            "a length",
-        );
+        let found = (mode, most, wire_length_within(bytes, mode, most));
+        expect_equal(&rt, &found, &(mode, most, expected), "a length");
     }
+    let length = wire_length([b'\n'; 256].as_slice(), Mode::Netascii);
+    expect_equal(&rt, &length, &Ok(512), "the length of 256 line feeds");
 }
 
 /// A reader that fills the buffer in each of `reads` reads, and then fails.
@@ -242,20 +192,10 @@ static READS: [(u64, Mode, Result<u64, FileFault>); 3] = [
     (523_705, Mode::Octet, Ok(MAX_WIRE + 1)),
 ];
 
-fn is_read_so(rt: &impl Abort, reads: u64, mode: Mode, expected: Result<u64, FileFault>) {
-    let length = wire_length(Failing { reads }, mode);
-    expect_equal(rt, &(reads, length), &(reads, expected), mode.word());
-}
-
 #[test]
 fn a_reader_fails(rt: HostRuntime) {
     for &(reads, mode, expected) in &READS {
-        is_read_so(&rt, reads, mode, expected);
+        let length = wire_length(Failing { reads }, mode);
+        expect_equal(&rt, &(reads, length), &(reads, expected), mode.word());
     }
-    expect_equal(
-        &rt,
-        &FileFault::Read.number(),
-        &1,
-        "the number of the fault",
-    );
 }

@@ -148,7 +148,7 @@ pub(crate) const STORE_FAULT: Then = Ok((false, Some(Outcome::StoreFault)));
 /// The end is closed, and refuses the event.
 pub(crate) const REFUSED: Then = Err(EndFault::Closed);
 
-/// What happens at an end, or what is asked of it. The end answers a datagram by the second bytes
+/// What happens at an end. The end answers a datagram by the second bytes
 /// of its row, or not at all if they are empty.
 #[derive(Clone, Copy)]
 pub(crate) enum Event {
@@ -160,6 +160,13 @@ pub(crate) enum Event {
     Lends(Endpoint, &'static [u8], &'static [u8], Then),
     /// After a timeout the end lends these bytes, to be sent to this endpoint.
     LendsAfterTimeout(&'static [u8], Endpoint, Then),
+    /// The end is then so.
+    Shows(Fact),
+}
+
+/// What is asked of an end.
+#[derive(Clone, Copy)]
+pub(crate) enum Fact {
     /// The end lends these bytes.
     Lent(Outgoing, &'static [u8]),
     /// The end waits so many seconds for its next timeout.
@@ -424,6 +431,22 @@ impl OpenEnd {
         expect_equal(rt, &found, &(bytes, is_committed), scene);
     }
 
+    /// The end is so.
+    fn shows(&self, rt: &impl Abort, scene: &str, fact: &Fact) {
+        match *fact {
+            Fact::Lent(outgoing, bytes) => {
+                expect_equal(rt, &self.end.bytes_of(outgoing), &bytes, scene);
+            }
+            Fact::Waits(backoff, seconds) => {
+                let found = backoff.wait(self.end.interval(), self.end.timeouts());
+                expect_equal(rt, &found, &seconds, scene);
+            }
+            Fact::Keeps(held) => expect_equal(rt, &self.end.held(), &held, scene),
+            Fact::Reports(record) => expect_equal(rt, &self.end.record(), &record, scene),
+            Fact::Holds(bytes, is_committed) => self.holds(rt, bytes, is_committed, scene),
+        }
+    }
+
     /// Plays one event of a scene.
     pub(crate) fn plays(
         &mut self,
@@ -450,16 +473,7 @@ impl OpenEnd {
                 let found = self.end.handle_timeout();
                 self.has_lent(rt, (scene, b"timeout"), found, answer, to, then);
             }
-            Event::Lent(outgoing, bytes) => {
-                expect_equal(rt, &self.end.bytes_of(outgoing), &bytes, scene);
-            }
-            Event::Waits(backoff, seconds) => {
-                let found = backoff.wait(self.end.interval(), self.end.timeouts());
-                expect_equal(rt, &found, &seconds, scene);
-            }
-            Event::Keeps(held) => expect_equal(rt, &self.end.held(), &held, scene),
-            Event::Reports(record) => expect_equal(rt, &self.end.record(), &record, scene),
-            Event::Holds(bytes, is_committed) => self.holds(rt, bytes, is_committed, scene),
+            Event::Shows(fact) => self.shows(rt, scene, &fact),
         }
     }
 }

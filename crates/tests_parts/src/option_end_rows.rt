@@ -1,7 +1,8 @@
 //! Options at one end of a transfer, datagram by datagram: the requests, the answers, and the block
 //! sizes that are used. The bytes are written by hand from RFC 2347 to 2349.
 
-use crate::open_end::Event::{Arrives, Holds, Reports, TimesOut, Waits};
+use crate::open_end::Event::{Arrives, Shows, TimesOut};
+use crate::open_end::Fact::{Holds, Reports, Waits};
 use crate::open_end::{
     ACK_0, ACK_1, ACK_2, ASKED_TO_READ, CLIENT, COMPLETES, DISK_FULL, EIGHT, EMPTY_DATA_2,
     FULL_DATA_1, OACK_8, Opening, PROGRESS, RRQ_8, SERVER, SERVER_END, STAYS, Scene, TOO_LARGE,
@@ -167,7 +168,7 @@ static ANSWERS: [Scene; 4] = [
             &[b'x'; 512],
         ),
         sends: (b"\x00\x06blksize\x001428\x00timeout\x003\x00", CLIENT),
-        events: &[Reports(AGREED), Waits(Backoff::Constant, 3)],
+        events: &[Shows(Reports(AGREED)), Shows(Waits(Backoff::Constant, 3))],
     },
     Scene {
         name: "a timeout and a block size are agreed",
@@ -178,7 +179,7 @@ static ANSWERS: [Scene; 4] = [
             &[b'x'; 512],
         ),
         sends: (b"\x00\x06timeout\x003\x00blksize\x001428\x00", CLIENT),
-        events: &[Reports(AGREED), Waits(Backoff::Constant, 3)],
+        events: &[Shows(Reports(AGREED)), Shows(Waits(Backoff::Constant, 3))],
     },
     // A timeout retransmits the OACK. ACK 0 requests DATA 1, and an empty block follows a full one
     // (RFC 2347, "Negotiation Protocol"; RFC 1350, section 6).
@@ -202,15 +203,15 @@ static ANSWERS: [Scene; 4] = [
         events: &[
             Arrives(CLIENT, b"\x00\x03\x00\x01ABCDEFGH", ACK_1, PROGRESS),
             Arrives(CLIENT, EMPTY_DATA_2, ACK_2, PROGRESS),
-            Holds(b"ABCDEFGH", true),
-            Reports(Record {
+            Shows(Holds(b"ABCDEFGH", true)),
+            Shows(Reports(Record {
                 side: Side::ServerWrite,
                 peer: Some(CLIENT),
                 size: 8,
                 number: 2,
                 complete: true,
                 ..ASKED_TO_READ
-            }),
+            })),
         ],
     },
 ];
@@ -243,13 +244,13 @@ static ACCEPTED: [Scene; 4] = [
             Arrives(SERVER_END, FULL_DATA_1, ACK_1, PROGRESS),
             Arrives(SERVER_END, OACK_512, b"", STAYS),
             Arrives(SERVER_END, EMPTY_DATA_2, ACK_2, PROGRESS),
-            Holds(&[b'x'; 512], true),
-            Reports(Record {
+            Shows(Holds(&[b'x'; 512], true)),
+            Shows(Reports(Record {
                 peer: Some(SERVER_END),
                 number: 2,
                 complete: true,
                 ..ASKED_TO_READ
-            }),
+            })),
         ],
     },
     Scene {
@@ -263,13 +264,13 @@ static ACCEPTED: [Scene; 4] = [
                 ACK_0,
                 PROGRESS,
             ),
-            Reports(Record {
+            Shows(Reports(Record {
                 peer: Some(SERVER_END),
                 size: 1428,
                 timeout: Some(3),
                 ..ASKED_TO_READ
-            }),
-            Waits(Backoff::Constant, 3),
+            })),
+            Shows(Waits(Backoff::Constant, 3)),
         ],
     },
     Scene {
@@ -278,12 +279,12 @@ static ACCEPTED: [Scene; 4] = [
         sends: (RRQ_BY_BOTH, SERVER),
         events: &[
             Arrives(SERVER_END, b"\x00\x06BLKSIZE\x008\x00", ACK_0, PROGRESS),
-            Reports(Record {
+            Shows(Reports(Record {
                 peer: Some(SERVER_END),
                 size: 8,
                 ..ASKED_TO_READ
-            }),
-            Waits(Backoff::Constant, 1),
+            })),
+            Shows(Waits(Backoff::Constant, 1)),
         ],
     },
     Scene {
@@ -292,12 +293,12 @@ static ACCEPTED: [Scene; 4] = [
         sends: (RRQ_BY_BOTH, SERVER),
         events: &[
             Arrives(SERVER_END, b"\x00\x06timeout\x003\x00", ACK_0, PROGRESS),
-            Reports(Record {
+            Shows(Reports(Record {
                 peer: Some(SERVER_END),
                 timeout: Some(3),
                 ..ASKED_TO_READ
-            }),
-            Waits(Backoff::Constant, 3),
+            })),
+            Shows(Waits(Backoff::Constant, 3)),
         ],
     },
 ];
@@ -315,10 +316,10 @@ static REFUSES: [Scene; 5] = [
                 OPTION_REFUSED,
                 Ok((false, Some(Outcome::Refused(Refusal::BadValue)))),
             ),
-            Reports(Record {
+            Shows(Reports(Record {
                 outcome: Some(Outcome::Refused(Refusal::BadValue)),
                 ..ASKED_TO_READ
-            }),
+            })),
         ],
     },
     Scene {
@@ -332,10 +333,10 @@ static REFUSES: [Scene; 5] = [
                 OPTION_REFUSED,
                 Ok((false, Some(Outcome::Refused(Refusal::NotAsked)))),
             ),
-            Reports(Record {
+            Shows(Reports(Record {
                 outcome: Some(Outcome::Refused(Refusal::NotAsked)),
                 ..ASKED_TO_READ
-            }),
+            })),
         ],
     },
     Scene {
@@ -349,10 +350,10 @@ static REFUSES: [Scene; 5] = [
                 OPTION_REFUSED,
                 Ok((false, Some(Outcome::Refused(Refusal::Repeated)))),
             ),
-            Reports(Record {
+            Shows(Reports(Record {
                 outcome: Some(Outcome::Refused(Refusal::Repeated)),
                 ..ASKED_TO_READ
-            }),
+            })),
         ],
     },
     // A file that exceeds the client's limit: ERROR 3 (RFC 1350, appendix I).
@@ -367,10 +368,10 @@ static REFUSES: [Scene; 5] = [
                 DISK_FULL,
                 TOO_LARGE,
             ),
-            Reports(Record {
+            Shows(Reports(Record {
                 outcome: Some(Outcome::TooLarge),
                 ..ASKED_TO_READ
-            }),
+            })),
         ],
     },
     // A server without options answers by ACK 0. The file then has to fit blocks of 512 bytes: at
@@ -381,11 +382,11 @@ static REFUSES: [Scene; 5] = [
         sends: (b"\x00\x02n\x00octet\x00blksize\x001428\x00", SERVER),
         events: &[
             Arrives(SERVER_END, ACK_0, FILE_TOO_LARGE, TOO_LARGE),
-            Reports(Record {
+            Shows(Reports(Record {
                 side: Side::ClientWrite,
                 outcome: Some(Outcome::TooLarge),
                 ..ASKED_TO_READ
-            }),
+            })),
         ],
     },
 ];

@@ -1,109 +1,83 @@
 //! Names of requests, and the paths that they stand for.
 
-use crate::expect::{expect, expect_bytes, expect_equal};
+use crate::expect::{expect, expect_equal};
 use std::alloc::Global;
 use std::process::Abort;
-use tftp_file::{Path, PathFault, path_of};
+use tftp_file::{PathFault, path_of};
 
-/// Names that stand for no path, with the first fault.
-static FAULTS: [(&[u8], PathFault); 9] = [
-    (b"", PathFault::Empty),
-    (b"/", PathFault::Empty),
-    (b"//a", PathFault::Segment),
-    (b"a/", PathFault::Segment),
-    (b"a/./b", PathFault::Segment),
-    (b".a", PathFault::Segment),
-    (b"a b", PathFault::Segment),
-    (b"a/\xe4", PathFault::Segment),
-    (b"a/b/c/d/e/f/g/h/i", PathFault::Depth),
+/// Names, and the path that each stands for, or its first fault. A segment has at most 64 letters, a
+/// path at most 8 segments and 255 bytes. The length is tested before the depth, the depth before
+/// the segments.
+static NAMES: [(&[u8], Result<&[u8], PathFault>); 21] = [
+    (b"a/b/c/d/e/f/g/h", Ok(b"a/b/c/d/e/f/g/h")),
+    (b"/boot.img", Ok(b"boot.img")),
+    (b"A", Ok(b"A")),
+    (b"a", Ok(b"a")),
+    (b"Z/z/0/9/a.b_c-d", Ok(b"Z/z/0/9/a.b_c-d")),
+    (b"", Err(PathFault::Empty)),
+    (b"/", Err(PathFault::Empty)),
+    (b"//a", Err(PathFault::Segment)),
+    (b"a/", Err(PathFault::Segment)),
+    (b"a/./b", Err(PathFault::Segment)),
+    (b".a", Err(PathFault::Segment)),
+    (b"a b", Err(PathFault::Segment)),
+    (b"a/\xe4", Err(PathFault::Segment)),
+    (b"a/b/c/d/e/f/g/h/i", Err(PathFault::Depth)),
+    (b"a/a/a/a/a/a/a/a", Ok(b"a/a/a/a/a/a/a/a")),
+    (b"a/a/a/a/a/a/a/a/a", Err(PathFault::Depth)),
+    (&[b'a'; 64], Ok(&[b'a'; 64])),
+    (&[b'a'; 65], Err(PathFault::Segment)),
+    (LONGEST, Ok(LONGEST)),
+    (TOO_LONG, Err(PathFault::Length)),
+    (DEEPEST, Err(PathFault::Depth)),
 ];
 
-/// The name has this fault, or none.
-fn has_fault(rt: &impl Abort, alloc: Global, name: &[u8], fault: Option<PathFault>) {
-    let found = path_of(alloc, name).err();
-    expect_equal(rt, &(name, found), &(name, fault), "the fault of a name");
-}
+/// Four segments of 63 letters each: 255 bytes.
+const LONGEST: &[u8] = b"\
+aaaaaaaaaaaaaaaaaaaaaaaaaaaaaaaaaaaaaaaaaaaaaaaaaaaaaaaaaaaaaaa/\
+aaaaaaaaaaaaaaaaaaaaaaaaaaaaaaaaaaaaaaaaaaaaaaaaaaaaaaaaaaaaaaa/\
+aaaaaaaaaaaaaaaaaaaaaaaaaaaaaaaaaaaaaaaaaaaaaaaaaaaaaaaaaaaaaaa/\
+aaaaaaaaaaaaaaaaaaaaaaaaaaaaaaaaaaaaaaaaaaaaaaaaaaaaaaaaaaaaaaa";
 
-#[test]
-fn wrong_names(rt: HostRuntime) {
-    for &(bytes, fault) in &FAULTS {
-        has_fault(&rt, rt.alloc(), bytes, Some(fault));
-    }
-}
+/// A segment of 64 letters and three of 63: 256 bytes.
+const TOO_LONG: &[u8] = b"a\
+aaaaaaaaaaaaaaaaaaaaaaaaaaaaaaaaaaaaaaaaaaaaaaaaaaaaaaaaaaaaaaa/\
+aaaaaaaaaaaaaaaaaaaaaaaaaaaaaaaaaaaaaaaaaaaaaaaaaaaaaaaaaaaaaaa/\
+aaaaaaaaaaaaaaaaaaaaaaaaaaaaaaaaaaaaaaaaaaaaaaaaaaaaaaaaaaaaaaa/\
+aaaaaaaaaaaaaaaaaaaaaaaaaaaaaaaaaaaaaaaaaaaaaaaaaaaaaaaaaaaaaaa";
 
-/// Names, and the paths that they stand for.
-static PATHS: [(&[u8], &[u8]); 5] = [
-    (b"a/b/c/d/e/f/g/h", b"a/b/c/d/e/f/g/h"),
-    (b"/boot.img", b"boot.img"),
-    (b"A", b"A"),
-    (b"a", b"a"),
-    (b"Z/z/0/9/a.b_c-d", b"Z/z/0/9/a.b_c-d"),
-];
+/// 128 segments of one letter, 32 on a line: 255 bytes.
+const DEEPEST: &[u8] = b"\
+a/a/a/a/a/a/a/a/a/a/a/a/a/a/a/a/a/a/a/a/a/a/a/a/a/a/a/a/a/a/a/a/\
+a/a/a/a/a/a/a/a/a/a/a/a/a/a/a/a/a/a/a/a/a/a/a/a/a/a/a/a/a/a/a/a/\
+a/a/a/a/a/a/a/a/a/a/a/a/a/a/a/a/a/a/a/a/a/a/a/a/a/a/a/a/a/a/a/a/\
+a/a/a/a/a/a/a/a/a/a/a/a/a/a/a/a/a/a/a/a/a/a/a/a/a/a/a/a/a/a/a/a";
 
-/// The path that a name stands for.
-fn path(rt: &impl Abort, alloc: Global, name: &[u8]) -> Path {
-    path_of(alloc, name).expect(rt, "a path")
-}
-
-fn stands_for(rt: &impl Abort, alloc: Global, name: &[u8], expected: &[u8]) {
-    let found = path(rt, alloc, name);
-    expect_bytes(rt, found.as_bytes(), expected, "the path of a name");
-    drop(found);
+fn stands_for(rt: &impl Abort, alloc: Global, name: &[u8], expected: Result<&[u8], PathFault>) {
+    let path = path_of(alloc, name);
+    let found = match &path {
+        Ok(path) => Ok(path.as_bytes()),
+        Err(fault) => Err(*fault),
+    };
+    expect_equal(rt, &(name, found), &(name, expected), "the path of a name");
+    drop(path);
 }
 
 #[test]
 fn paths_of_names(rt: HostRuntime) {
-    for &(bytes, path) in &PATHS {
-        stands_for(&rt, rt.alloc(), bytes, path);
+    for &(name, expected) in &NAMES {
+        stands_for(&rt, rt.alloc(), name, expected);
     }
+    let number = PathFault::Segment.number();
+    expect_equal(&rt, &number, &2, "the number of the fault");
 }
 
 #[test]
 fn case_counts(rt: HostRuntime) {
     let rt = &rt;
-    let upper = path(rt, rt.alloc(), b"A");
-    let lower = path(rt, rt.alloc(), b"a");
+    let upper = path_of(rt.alloc(), b"A").expect(rt, "a path");
+    let lower = path_of(rt.alloc(), b"a").expect(rt, "a path");
     expect(rt, upper < lower, "two paths, in the order of their bytes");
     drop(upper);
     drop(lower);
-    let number = PathFault::Segment.number();
-    expect_equal(rt, &number, &2, "the number of the fault");
-}
-
-/// How many letters each segment has, and the fault. A segment has at most 64 letters, a path at
-/// most 8 segments and 255 bytes. The length is tested before the depth, the depth before the
-/// segments.
-static LENGTHS: [(&[usize], Option<PathFault>); 7] = [
-    (&[1; 8], None),
-    (&[1; 9], Some(PathFault::Depth)),
-    (&[64], None),
-    (&[65], Some(PathFault::Segment)),
-    (&[63, 63, 63, 63], None),
-    (&[64, 63, 63, 63], Some(PathFault::Length)),
-    (&[1; 128], Some(PathFault::Depth)),
-];
-
-/// Segments of these numbers of letters `a`, separated by slashes.
-fn name_of(rt: &impl Abort, alloc: Global, segments: &[usize]) -> Vec<u8> {
-    let mut bytes = Vec::new(alloc);
-    for letters in segments {
-        let end = bytes.len().saturating_add(*letters);
-        bytes.resize(end, b'a').expect(rt, "memory");
-        bytes.push(b'/').expect(rt, "memory");
-    }
-    // no slash after the last segment
-    bytes.pop();
-    bytes
-}
-
-fn of_segments(rt: &impl Abort, alloc: Global, segments: &[usize], fault: Option<PathFault>) {
-    let name = name_of(rt, alloc, segments);
-    has_fault(rt, alloc, name.as_slice(), fault);
-}
-
-#[test]
-fn long_names(rt: HostRuntime) {
-    for &(segments, fault) in &LENGTHS {
-        of_segments(&rt, rt.alloc(), segments, fault);
-    }
 }

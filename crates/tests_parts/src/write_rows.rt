@@ -1,7 +1,8 @@
 //! Writes, datagram by datagram, at one end. The bytes are written by hand from RFC 1350, sections
 //! 4 to 6.
 
-use crate::open_end::Event::{Arrives, Holds, Reports};
+use crate::open_end::Event::{Arrives, Shows};
+use crate::open_end::Fact::{Holds, Reports};
 use crate::open_end::{
     ACK_0, ACK_1, ASKED_TO_READ, CLIENT, COMPLETES, CONFIG, DATA_1, DISK_FULL, NOTHING, Opening,
     PROGRESS, RRQ_A, SERVER, SERVER_END, STORE_FAULT, Scene, play_each, refuses_each,
@@ -18,10 +19,10 @@ static SCENES: [Scene; 4] = [
         name: "the longest file is requested",
         opening: Opening::Put(33_553_919, b"", NOTHING, CONFIG),
         sends: (WRQ_N, SERVER),
-        events: &[Reports(Record {
+        events: &[Shows(Reports(Record {
             side: Side::ClientWrite,
             ..ASKED_TO_READ
-        })],
+        }))],
     },
     // ACK 0 answers the request, from the port of the server's end (RFC 1350, section 4).
     Scene {
@@ -31,14 +32,14 @@ static SCENES: [Scene; 4] = [
         events: &[
             Arrives(SERVER_END, ACK_0, DATA_1, PROGRESS),
             Arrives(SERVER_END, ACK_1, b"", COMPLETES),
-            Reports(Record {
+            Shows(Reports(Record {
                 side: Side::ClientWrite,
                 peer: Some(SERVER_END),
                 number: 1,
                 complete: true,
                 outcome: Some(Outcome::Complete),
                 ..ASKED_TO_READ
-            }),
+            })),
         ],
     },
     // A short block is the last; it is acknowledged after the commit (RFC 1350, section 6).
@@ -48,14 +49,14 @@ static SCENES: [Scene; 4] = [
         sends: (ACK_0, CLIENT),
         events: &[
             Arrives(CLIENT, DATA_1, ACK_1, PROGRESS),
-            Holds(b"ABC", true),
-            Reports(Record {
+            Shows(Holds(b"ABC", true)),
+            Shows(Reports(Record {
                 side: Side::ServerWrite,
                 peer: Some(CLIENT),
                 number: 1,
                 complete: true,
                 ..ASKED_TO_READ
-            }),
+            })),
         ],
     },
     // A refused commit: ERROR 3 (RFC 1350, appendix I), and the end closes.
@@ -65,12 +66,12 @@ static SCENES: [Scene; 4] = [
         sends: (ACK_0, CLIENT),
         events: &[
             Arrives(CLIENT, DATA_1, DISK_FULL, STORE_FAULT),
-            Reports(Record {
+            Shows(Reports(Record {
                 side: Side::ServerWrite,
                 peer: Some(CLIENT),
                 outcome: Some(Outcome::StoreFault),
                 ..ASKED_TO_READ
-            }),
+            })),
         ],
     },
 ];
