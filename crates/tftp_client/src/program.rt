@@ -52,7 +52,21 @@ pub fn tftp_words<R: Runtime + LockFiles + AllocGlobal + Net, S: AsStr, E: IsTer
     ensures { result ≤ 2 }
 {
     let mut net = SystemUdp::new(rt);
-    let (status, _) = tftp_on(rt, &mut net, SystemDisk::new(rt), rt.alloc(), words, errors);
+    status_on(rt, &mut net, SystemDisk::new(rt), rt.alloc(), words, errors)
+}
+
+/// As [`tftp_on`], which returns the status alone.
+fn status_on<P: Print + Eprint, N: ClientUdp, D: Disk, S: AsStr, E: IsTerminal>(
+    rt: &P,
+    net: &mut N,
+    disk: D,
+    alloc: Global,
+    words: &[S],
+    errors: &E,
+) -> u8
+    ensures { result ≤ 2 }
+{
+    let (status, _disk) = tftp_on(rt, net, disk, alloc, words, errors);
     status
 }
 
