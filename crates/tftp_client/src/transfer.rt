@@ -8,6 +8,7 @@ mod notes;
 
 ghost use Rattle.std.specs.Prelude.{◌≡◌, ◌≤◌, ◌+◌, ◌↔◌, IfOk, IfErr, IsTrue, false};
 ghost use Rattle.tftp_negotiate.specs.declared.known.Kind.TheVariants.{Read, Write};
+ghost use Rattle.tftp_disk.specs.DiskSource.{source_calls};
 ghost use Rattle.tftp_ends.specs.End.{is_complete};
 ghost use Rattle.tftp_ends.specs.Files.{AreFilesOf};
 ghost use Rattle.tftp_lines.specs.declared.client_outcome.ClientOutcome.TheVariants as ends;
@@ -15,12 +16,14 @@ ghost use Rattle.tftp_sockets.specs.Quiet.{waits as waits_in};
 ghost use Rattle.tftp_client.specs.Conversation.{IsReady, state_of};
 ghost use Rattle.tftp_client.specs.Converses.{IsOpen};
 ghost use Rattle.tftp_client.specs.OnDisk.{IsOut, KeepsDisk, LeavesTransfer, RunsTo, WritesOut};
-ghost use Rattle.tftp_client.specs.Sent.{Finishes, RunsOnce};
+ghost use Rattle.tftp_client.specs.Outbound.{HasLength};
+ghost use Rattle.tftp_client.specs.Sent.{Finishes, IsOpenedAt, RunsOnce};
 ghost use Rattle.tftp_client.specs.Stored.{HasDisk, IsReceived, count_of, stored};
 ghost use Rattle.tftp_client.specs.Runs.{MayFallBack, plain};
 
 use crate::cause::Cause;
-use crate::local::{LocalFile, SourceOf, read_error};
+use crate::local::{FileOf, LocalFile, SourceOf, read_error};
+use crate::local_error::LocalError;
 use crate::outbound::Outbound;
 use crate::part_file::Place;
 use crate::transfer::asking::{ask_to_get, ask_to_put};
@@ -212,18 +215,33 @@ fn put<E: Eprint, N: ClientUdp, D: Disk>(
         (waits.old + waits_in (N.log net.old)) waits.new Write job.now result
         (N.log net.old) (N.log net.new) (D.log disk.now) (D.log disk.now) }
 {
-    let outbound = match Outbound::open(&mut disk.view(), alloc, job.local, job.mode) {
+    let outbound = match open_outbound(disk, alloc, job) {
         Ok(outbound) => outbound,
         Err(error) => return Err(Failure::of_file(error)),
     };
-    match ask_to_put(net, alloc, job, outbound.length.wire_bytes) {
+    let Outbound { source, length } = outbound;
+    let mut files: Files<SourceOf<D>, LocalFile<D>> = Files::Source(source);
+    match ask_to_put(net, alloc, job, length.wire_bytes) {
         Ok(conversation) => {
-            let mut files: Files<SourceOf<D>, LocalFile<D>> = Files::Source(outbound.source);
-            let sent = outbound.length.bytes;
-            converse(rt, net, conversation, &mut files, sent, job, waits)
+            converse(rt, net, conversation, &mut files, length.bytes, job, waits)
         }
         Err(failure) => Err(failure),
     }
+}
+
+/// Opens the file of a job that sends it.
+fn open_outbound<D: Disk>(
+    disk: &D,
+    alloc: Global,
+    job: &Job<'_>,
+) -> Result<Outbound<FileOf<D>>, LocalError>
+    ensures opened { IfOk result (λ outbound.
+        IsOpenedAt job.now.local.now job.now.mode outbound.source) }
+    ensures long { IfOk result (λ outbound. outbound.length.wire_bytes ≤ MAX_WIRE
+        → HasLength job.now.mode outbound.length.bytes outbound.length.wire_bytes
+        (source_calls outbound.source)) }
+{
+    Outbound::open(&mut disk.view(), alloc, job.local, job.mode)
 }
 
 /// Runs a transfer until it is complete or fails, and concludes a complete one. `sent` is the
