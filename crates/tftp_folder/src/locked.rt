@@ -18,6 +18,7 @@ ghost use Rattle.tftp_folder.specs.Reached.{IsReached, ReachesNames};
 
 use crate::folder_draft::FolderDraft;
 use crate::naming::NameFault;
+use crate::replacing::unless_missing;
 use std::io::{self, ErrorKind};
 use tftp_disk::{Disk, Looks};
 use tftp_lines::Reason;
@@ -54,16 +55,9 @@ pub(crate) fn rename_locked<D: Disk>(
         Ok(_) => {}
         Err(error) => return Err(lock_fault(error)),
     }
-    match rename_new(disk, draft) {
-        Ok(()) => {
-            let _ = disk.remove(path);
-            Ok(())
-        }
-        Err(error) => {
-            let _ = disk.remove(path);
-            Err(NameFault::System(error))
-        }
-    }
+    let renamed = rename_new(disk, draft);
+    let _ = disk.remove(path);
+    renamed
 }
 
 /// Why a lock was not made.
@@ -81,7 +75,7 @@ fn lock_fault(error: io::Error) -> NameFault
 }
 
 /// Renames a draft if no file has the name, whose lock was made just before.
-fn rename_new<D: Disk>(disk: &mut D, draft: &FolderDraft<D::File>) -> io::Result<()>
+fn rename_new<D: Disk>(disk: &mut D, draft: &FolderDraft<D::File>) -> Result<(), NameFault>
     requires locked { (before : List DiskEvent) × (D.log disk.old
         ≡ Made (lock_of (string_bytes draft.now.target)) (Ok tt) ∷ before) }
     ensures ok { OnOk result (RenamesDraft draft.now (changes (D.log disk.old)) (Ok tt)
@@ -101,16 +95,16 @@ fn rename_new<D: Disk>(disk: &mut D, draft: &FolderDraft<D::File>) -> io::Result
     let (path, target) = (draft.draft.as_str(), draft.target.as_str());
     match check_free(disk, target) {
         Ok(()) => {}
-        Err(error) => return Err(error),
+        Err(fault) => return Err(fault),
     }
     match disk.rename(draft.file(), path, target) {
         Ok(()) => Ok(()),
-        Err(error) => Err(error),
+        Err(error) => Err(NameFault::System(error)),
     }
 }
 
 /// Looks whether no file has the name.
-fn check_free<L: Looks>(looks: &mut L, name: &str) -> io::Result<()>
+fn check_free<L: Looks>(looks: &mut L, name: &str) -> Result<(), NameFault>
     ensures looks { changes (L.log looks.new) ≡ changes (L.log looks.old) }
     ensures renames { renames (L.log looks.new) ≡ renames (L.log looks.old) }
     ensures free { OnOk result ((error : Error) × (error_kind error ≡ ErrorKind.NotFound)
@@ -121,13 +115,7 @@ fn check_free<L: Looks>(looks: &mut L, name: &str) -> io::Result<()>
         → StaysInside root (L.log looks.old) (L.log looks.new) }
 {
     match looks.look(name) {
-        Ok(_) => Err(io::Error::from(ErrorKind::AlreadyExists)),
-        Err(error) => {
-            if error.kind() == ErrorKind::NotFound {
-                Ok(())
-            } else {
-                Err(error)
-            }
-        }
+        Ok(_) => Err(NameFault::System(io::Error::from(ErrorKind::AlreadyExists))),
+        Err(error) => unless_missing(error),
     }
 }

@@ -1,6 +1,7 @@
 //! Which files a draft may replace, and what it has of them.
 
 ghost use Rattle.std.specs.Prelude.{ℕ, ◌≡◌, ◌≤◌, List, ◌∷◌, true, Ok, OnOk, OnErr};
+ghost use Rattle.std.specs.IoError.{error_kind};
 ghost use Rattle.std.specs.String.{string_bytes};
 ghost use Rattle.tftp_disk.specs.Changes.{changes, renames};
 ghost use Rattle.tftp_disk.specs.DiskTrace.DiskEvent.{Tried};
@@ -16,7 +17,8 @@ ghost use Rattle.tftp_folder.specs.Uploads.{IsBelow};
 
 use crate::folder_draft::FolderDraft;
 use crate::naming::NameFault;
-use std::io::ErrorKind;
+use std::fs::OpenFile;
+use std::io::{self, ErrorKind, Write};
 use tftp_disk::{Disk, Found, Kind};
 use tftp_lines::Reason;
 
@@ -109,20 +111,37 @@ fn check_named<D: Disk>(disk: &mut D, draft: &mut FolderDraft<D::File>) -> Resul
     ensures inside { (root : List ℕ) → IsBelow root (string_bytes draft.old.target)
         → StaysInside root (D.log disk.old) (D.log disk.new) }
 {
-    match disk.look(draft.target.as_str()) {
-        Ok(found) => {
-            check_replaced(disk, draft.target.as_str(), &found)?;
-            if draft.take_permissions(&found)? {
-                draft.sync_all()?;
-            }
-            Ok(())
-        }
-        Err(error) => {
-            if error.kind() == ErrorKind::NotFound {
-                Ok(())
-            } else {
-                Err(NameFault::System(error))
-            }
-        }
+    let found = match disk.look(draft.target.as_str()) {
+        Ok(found) => found,
+        Err(error) => return unless_missing(error),
+    };
+    match check_replaced(disk, draft.target.as_str(), &found) {
+        Ok(()) => take_permissions(draft, &found),
+        Err(fault) => Err(fault),
+    }
+}
+
+/// Gives a draft the permissions of a file, and syncs it again if it had others.
+fn take_permissions<F: Write + OpenFile>(
+    draft: &mut FolderDraft<F>,
+    found: &Found,
+) -> Result<(), NameFault>
+    ensures stays { IsDone draft.old → OnOk result (KeepsDone draft.old draft.new) }
+    ensures names { SameNames draft.old draft.new }
+{
+    if draft.take_permissions(found)? {
+        draft.sync_all()?;
+    }
+    Ok(())
+}
+
+/// Nothing if a look failed because there is no file, and else its error.
+pub(crate) fn unless_missing(error: io::Error) -> Result<(), NameFault>
+    ensures { OnOk result (error_kind error ≡ ErrorKind.NotFound) }
+{
+    if error.kind() == ErrorKind::NotFound {
+        Ok(())
+    } else {
+        Err(NameFault::System(error))
     }
 }
