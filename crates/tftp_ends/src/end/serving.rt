@@ -1,6 +1,6 @@
 //! The openings of a server's end: by its answer to the request.
 
-ghost use Rattle.std.specs.Prelude.{ℕ, ◌≡◌, ◌++◌, ◌*◌, ◌≤◌, ◌<◌, ◌⊎◌, not, true, List, [], length};
+ghost use Rattle.std.specs.Prelude.{ℕ, ◌≡◌, ◌+◌, ◌++◌, ◌*◌, ◌≤◌, ◌<◌, ◌⊎◌, not, true, List, [], length};
 ghost use Rattle.std.specs.Prelude.{Ok, IfOk, IfErr, OnOk, OnErr, IsErrOf, vec_capacity};
 ghost use Rattle.tftp_ends.specs.End.{is_sender};
 ghost use Rattle.tftp_ends.specs.Files.{AreFilesOf, KeepsFiles, KeepsSource, AreSame};
@@ -36,6 +36,25 @@ fn first_ack(alloc: Global) -> Result<Vec<u8>, AllocError>
     let mut bytes = Vec::with_capacity(alloc, HEADER)?;
     append_ack(&mut bytes, 0)?;
     Ok(bytes)
+}
+
+/// Two empty buffers with capacity for a datagram of this many bytes, for which `out` then has
+/// capacity as well.
+fn first_buffers(
+    alloc: Global,
+    count: usize,
+    out: &mut Vec<u8>,
+) -> Result<(Vec<u8>, Vec<u8>), AllocError>
+    ensures empty { IfOk result (λ made. (made.0.items ≡ []) × (made.1.items ≡ [])) }
+    ensures room { IfOk result (λ made. (count ≤ vec_capacity made.0)
+        × (count ≤ vec_capacity made.1)) }
+    ensures out { OnOk result (length out.old.items + count ≤ vec_capacity out.new) }
+    ensures items { out.new.items ≡ out.old.items }
+    ensures capacity { vec_capacity out.old ≤ vec_capacity out.new }
+{
+    out.reserve(count)?;
+    let spare = Vec::with_capacity(alloc, count)?;
+    Ok((Vec::with_capacity(alloc, count)?, spare))
 }
 
 /// The OACK of the agreed options.
@@ -177,9 +196,7 @@ impl End {
         ensures same { S.is_same source.old source.new }
     {
         let want = block_length(role.length, DEFAULT_BLOCK, 1);
-        out.reserve(HEADER + want)?;
-        let spare = Vec::with_capacity(alloc, HEADER + want)?;
-        let mut last_sent = Vec::with_capacity(alloc, HEADER + want)?;
+        let (mut last_sent, spare) = first_buffers(alloc, HEADER + want, out)?;
         match read_data(source, 1, want, &mut last_sent)? {
             BlockRead::Changed => Err(OpenFault::SourceFault),
             BlockRead::Whole => {
