@@ -25,3 +25,10 @@ returns-clause-asks g c =
           c.args.incoming.bytes.now _ c.args.write.mode c.args.write.agreed _ _ _ w.in-Err.ensures.begins
           w.in-Err.ensures.refused w.in-Err.ensures.begun w.in-Err.ensures.memory w.begin_refused.ensures)
     ]
+
+pub returns-clause-room : goal.returns-clause-room
+returns-clause-room g c =
+    elim c.match-begin.branch [
+      | in-Ok-begin w ↦ rw w.out-is (λ e. c.in-Ok.ensures.room)
+      | in-Err w ↦ rw (w.out-is, w.truncate.ensures.capacity) (λ e. c.in-Ok.ensures.room)
+    ]
