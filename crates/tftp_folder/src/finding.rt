@@ -370,27 +370,54 @@ impl ServedFolder {
     {
         let location = match self.walk(disk, path, target) {
             Ok(location) => location,
-            // The path is there: this is the system's memory.
-            Err(StoreFault::Memory) => return Err(StoreFault::Full),
-            // A missing folder is not created.
-            Err(StoreFault::Missing) => return Err(self.refused(Reason::NoFolder)),
-            Err(_) => return Err(StoreFault::Io),
+            Err(fault) => return Err(self.place_refused(fault)),
         };
-        if location.found.is_some() && existing == Existing::Refused {
-            return Err(StoreFault::Exists);
-        }
-        if location.has_link {
-            return Err(self.refused(Reason::ThroughLink));
-        }
-        if let Some(found) = &location.found {
-            self.may_replace(disk, location.path.as_str(), found)?;
-        }
+        self.check_place(disk, &location, existing)?;
         let folder = self.folder_to_write(disk, location.folder)?;
         Ok(DraftPlace {
             path: location.path,
             folder,
             replaced: location.found,
         })
+    }
+
+    /// The fault of a place that was not found.
+    fn place_refused(&self, fault: StoreFault) -> StoreFault
+        ensures { MayNotStore result }
+    {
+        match fault {
+            // The path is there: this is the system's memory.
+            StoreFault::Memory => StoreFault::Full,
+            // A missing folder is not created.
+            StoreFault::Missing => self.refused(Reason::NoFolder),
+            _ => StoreFault::Io,
+        }
+    }
+
+    /// Refuses a place with a link on its path, or with a file that is not to be replaced.
+    fn check_place<D: Disk>(
+        &self,
+        disk: &mut D,
+        location: &Location,
+        existing: Existing,
+    ) -> Result<(), StoreFault>
+        ensures fault { IfErr result (MayNotName (is_replaced existing)) }
+        ensures looks { changes (D.log disk.new) ≡ changes (D.log disk.old) }
+        ensures placed { placed (D.log disk.new) ≡ placed (D.log disk.old) }
+        ensures follows { follows (D.log disk.new) ≡ follows (D.log disk.old) }
+        ensures inside { IsInside (string_bytes self.now.root) (string_bytes location.now.path)
+            → StaysInside (string_bytes self.now.root) (D.log disk.old) (D.log disk.new) }
+    {
+        if location.found.is_some() && existing == Existing::Refused {
+            return Err(StoreFault::Exists);
+        }
+        if location.has_link {
+            return Err(self.refused(Reason::ThroughLink));
+        }
+        match &location.found {
+            Some(found) => self.may_replace(disk, location.path.as_str(), found),
+            None => Ok(()),
+        }
     }
 
     /// Refuses to replace what is no regular file, or what the server's user may not write.
