@@ -79,23 +79,15 @@ fn breaks_off(rt: &impl Abort, alloc: Global, sender: &Sender, sent: usize, give
     requires { sent < 5 }
 {
     let (opening, from, turns) = sender;
-    let mut out = Vec::new(alloc);
-    let mut end = open(rt, alloc, opening, gives, &mut out).expect(rt, "a sender");
+    let mut end = open(rt, alloc, opening, gives).expect(rt, "a sender");
     for &(asks, block) in &turns[..sent] {
-        end.answers(rt, ("no fault", asks), &mut out, *from, block, PROGRESS);
+        end.answers(rt, ("no fault", asks), *from, block, PROGRESS);
     }
     // the first answer to a client makes its peer known
     let is_progress = sent == 0 && *from == SERVER_END;
     let then = Ok((is_progress, Some(Outcome::SourceFault)));
     let asks = turns[sent].0;
-    end.answers(
-        rt,
-        ("a source fault", asks),
-        &mut out,
-        *from,
-        FILE_CHANGED,
-        then,
-    );
+    end.answers(rt, ("a source fault", asks), *from, FILE_CHANGED, then);
     let number = usize::from(end.as_end().record().number);
     expect_equal(rt, &number, &sent, "the blocks sent");
     end.finish();
@@ -141,21 +133,13 @@ static STORED: [(&[u8], &[u8]); 5] = [
 fn is_full(rt: &impl Abort, alloc: Global, stored: usize, next: &[u8])
     requires { stored < 5 }
 {
-    let mut out = Vec::new(alloc);
-    let mut end = open(rt, alloc, &RECEIVER, WHOLE, &mut out).expect(rt, "a receiver");
+    let mut end = open(rt, alloc, &RECEIVER, WHOLE).expect(rt, "a receiver");
     for at in 0..stored {
         let (data, ack) = STORED[at];
-        end.answers(rt, ("no fault", data), &mut out, CLIENT, ack, PROGRESS);
+        end.answers(rt, ("no fault", data), CLIENT, ack, PROGRESS);
     }
     end.set_sink();
-    end.answers(
-        rt,
-        ("a full sink", next),
-        &mut out,
-        CLIENT,
-        DISK_FULL,
-        STORE_FAULT,
-    );
+    end.answers(rt, ("a full sink", next), CLIENT, DISK_FULL, STORE_FAULT);
     let number = usize::from(end.as_end().record().number);
     expect_equal(rt, &number, &stored, "the blocks stored");
     end.holds(rt, &FILE[..8 * stored], false, "what is stored");

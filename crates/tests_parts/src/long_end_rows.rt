@@ -17,43 +17,37 @@ const LONGEST: usize = 524_279;
 const GET_8: Opening = Opening::Get(b"a", Mode::Octet, EIGHT, CONFIG);
 
 /// A server's end that answers the request for the file by an OACK.
-fn server(rt: &impl Abort, alloc: Global, file: &[u8], sent: &mut Vec<u8>) -> OpenEnd {
+fn server(rt: &impl Abort, alloc: Global, file: &[u8]) -> OpenEnd {
     let source = source_of(rt, alloc, file, Mode::Octet, WHOLE);
     let agreed = agreed_of(rt, RRQ_8, 524_279);
-    let opened = serve_read(alloc, Mode::Octet, &agreed, 524_279, source, sent);
+    let opened = serve_read(rt, alloc, Mode::Octet, &agreed, 524_279, source);
     opened.expect(rt, "it serves a read")
 }
 
-/// 131,073 datagrams: a request, its OACK, ACK 0, and DATA and ACK of 65,535 blocks. At the end the
-/// client has stored the whole file, and the server has its last ACK.
-#[test]
-fn the_last_number_is_reached(rt: HostRuntime) {
-    let (rt, alloc) = (&rt, rt.alloc());
-    let (mut asks, mut answers) = (Vec::new(alloc), Vec::new(alloc));
-    let file = vec![in alloc; b'x'; LONGEST].expect(rt, "memory");
-    let mut client = open(rt, alloc, &GET_8, WHOLE, &mut asks).expect(rt, "a client");
-    let mut server = server(rt, alloc, &file, &mut answers);
-    let first = (asks.as_slice(), answers.as_slice());
+/// The file travels from the server to the client. 131,073 datagrams: a request, its OACK, ACK 0,
+/// and DATA and ACK of 65,535 blocks. At the end the client has stored the whole file, and the
+/// server has its last ACK.
+fn travels(rt: &impl Abort, client: &mut OpenEnd, server: &mut OpenEnd, file: &[u8]) {
+    let first = (client.sent(), server.sent());
     expect_equal(rt, &first, &(RRQ_8, OACK_8), "a request and its OACK");
     let mut datagrams = 2u32;
     for _ in 0..65_536u32 {
-        let more = round(rt, &mut client, &mut server, &mut asks, &mut answers);
-        datagrams = datagrams.saturating_add(more);
+        datagrams = datagrams.saturating_add(round(rt, client, server));
     }
-    let (client_end, server_end) = (client.as_end().record(), server.as_end().record());
-    let found = (
-        datagrams,
-        client_end.number,
-        client_end.complete,
-        server_end.complete,
-    );
-    expect_equal(
-        rt,
-        &found,
-        &(131_073, 65_535, true, true),
-        "the datagrams, and both ends",
-    );
-    client.holds(rt, &file, true, "the whole file");
+    let (asks, sends) = (client.as_end().record(), server.as_end().record());
+    let found = (datagrams, asks.number, asks.complete, sends.complete);
+    let expected = (131_073, 65_535, true, true);
+    expect_equal(rt, &found, &expected, "the datagrams, and both ends");
+    client.holds(rt, file, true, "the whole file");
+}
+
+#[test]
+fn the_last_number_is_reached(rt: HostRuntime) {
+    let (rt, alloc) = (&rt, rt.alloc());
+    let file = vec![in alloc; b'x'; LONGEST].expect(rt, "memory");
+    let mut client = open(rt, alloc, &GET_8, WHOLE).expect(rt, "a client");
+    let mut server = server(rt, alloc, &file);
+    travels(rt, &mut client, &mut server, &file);
     client.finish();
     server.finish();
 }

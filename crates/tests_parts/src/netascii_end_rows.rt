@@ -236,22 +236,16 @@ static TRAVELS: [Travel; 3] = [
 
 /// A client reads the file from a server's end.
 fn travels(rt: &impl Abort, alloc: Global, (host, length, first, is_whole, datagrams): Travel) {
-    let (mut asks, mut answers) = (Vec::new(alloc), Vec::new(alloc));
     let served = Opening::ServeRead(RRQ_A, Mode::Netascii, length, host);
-    let mut client = open(rt, alloc, &GET_A, WHOLE, &mut asks).expect(rt, "a client");
-    let mut server = open(rt, alloc, &served, WHOLE, &mut answers).expect(rt, "a server's end");
-    let mut count = round(rt, &mut client, &mut server, &mut asks, &mut answers);
+    let mut client = open(rt, alloc, &GET_A, WHOLE).expect(rt, "a client");
+    let mut server = open(rt, alloc, &served, WHOLE).expect(rt, "a server's end");
+    let mut count = round(rt, &mut client, &mut server);
     client.holds(rt, first, is_whole, "after DATA 1");
-    if !answers.is_empty() {
-        let more = round(rt, &mut client, &mut server, &mut asks, &mut answers);
-        count = count.saturating_add(more);
+    if !server.sent().is_empty() {
+        count = count.saturating_add(round(rt, &mut client, &mut server));
     }
-    expect_equal(
-        rt,
-        &count.saturating_add(2),
-        &datagrams,
-        "a request, DATA and their ACKs",
-    );
+    let total = count.saturating_add(2);
+    expect_equal(rt, &total, &datagrams, "a request, DATA and their ACKs");
     client.holds(rt, host, true, "after the last DATA");
     client.finish();
     server.finish();

@@ -1,6 +1,6 @@
 //! An end with its file, and scenes: what arrives at one end, and what it has to do.
 
-use crate::expect::expect_equal;
+use crate::expect::{expect, expect_equal};
 use std::alloc::Global;
 use std::marker::Model;
 use std::process::Abort;
@@ -188,12 +188,13 @@ pub(crate) struct Scene {
     pub(crate) events: &'static [Event],
 }
 
-/// An end, its file, and the step of its opening.
+/// An end, its file, the step of its opening, and the datagram of its last event.
 #[derive(Drop)]
 pub(crate) struct OpenEnd {
     end: End,
     files: Files<FaultSource, MemSink>,
     first: Step,
+    sent: Vec<u8>,
 }
 
 impl Model for OpenEnd {
@@ -207,34 +208,43 @@ impl Model for OpenEnd {
     ghost invariant = { λ e. AreFilesOf e.end.role.side e.files };
 }
 
+/// The fault of an end that was not opened: nothing is sent.
+fn refused(rt: &impl Abort, fault: OpenFault, sent: &[u8]) -> OpenFault {
+    expect(rt, sent.is_empty(), "nothing is sent");
+    fault
+}
+
 /// An opened client that reads.
 fn get(
+    rt: &impl Abort,
     alloc: Global,
     name: &[u8],
     mode: Mode,
     asked: &Asked,
     config: &EndConfig,
-    sent: &mut Vec<u8>,
 ) -> Result<OpenEnd, OpenFault> {
-    match End::get(alloc, SERVER, name, mode, asked, config, sent) {
+    let mut sent = Vec::new(alloc);
+    match End::get(alloc, SERVER, name, mode, asked, config, &mut sent) {
         Ok((end, first)) => Ok(OpenEnd {
             end,
             files: Files::Sink(MemSink::new(alloc, ROOM, false)),
             first,
+            sent,
         }),
-        Err(fault) => Err(fault),
+        Err(fault) => Err(refused(rt, fault, &sent)),
     }
 }
 
 /// An opened client that writes.
 fn put(
+    rt: &impl Abort,
     alloc: Global,
     asked: &Asked,
     config: &EndConfig,
     length: u64,
     source: FaultSource,
-    sent: &mut Vec<u8>,
 ) -> Result<OpenEnd, OpenFault> {
+    let mut sent = Vec::new(alloc);
     match End::put(
         alloc,
         SERVER,
@@ -243,14 +253,15 @@ fn put(
         asked,
         length,
         config,
-        sent,
+        &mut sent,
     ) {
         Ok((end, first)) => Ok(OpenEnd {
             end,
             files: Files::Source(source),
             first,
+            sent,
         }),
-        Err(fault) => Err(fault),
+        Err(fault) => Err(refused(rt, fault, &sent)),
     }
 }
 
@@ -267,34 +278,44 @@ pub(crate) fn agreed_of(rt: &impl Abort, request: &[u8], length: u64) -> Agreed 
 
 /// A server's end that sends.
 pub(crate) fn serve_read(
+    rt: &impl Abort,
     alloc: Global,
     mode: Mode,
     agreed: &Agreed,
     length: u64,
     source: FaultSource,
-    sent: &mut Vec<u8>,
 ) -> Result<OpenEnd, OpenFault> {
+    let mut sent = Vec::new(alloc);
     let mut files: Files<FaultSource, MemSink> = Files::Source(source);
-    match End::serve_read(alloc, &mut files, CLIENT, mode, agreed, length, 5, sent) {
-        Ok((end, first)) => Ok(OpenEnd { end, files, first }),
-        Err(fault) => Err(fault),
+    match End::serve_read(
+        alloc, &mut files, CLIENT, mode, agreed, length, 5, &mut sent,
+    ) {
+        Ok((end, first)) => Ok(OpenEnd {
+            end,
+            files,
+            first,
+            sent,
+        }),
+        Err(fault) => Err(refused(rt, fault, &sent)),
     }
 }
 
 /// A server's end that receives.
 fn serve_write(
+    rt: &impl Abort,
     alloc: Global,
     agreed: &Agreed,
     refuses_commit: bool,
-    sent: &mut Vec<u8>,
 ) -> Result<OpenEnd, OpenFault> {
-    match End::serve_write(alloc, CLIENT, Mode::Octet, agreed, 5, sent) {
+    let mut sent = Vec::new(alloc);
+    match End::serve_write(alloc, CLIENT, Mode::Octet, agreed, 5, &mut sent) {
         Ok((end, first)) => Ok(OpenEnd {
             end,
             files: Files::Sink(MemSink::new(alloc, ROOM, refuses_commit)),
             first,
+            sent,
         }),
-        Err(fault) => Err(fault),
+        Err(fault) => Err(refused(rt, fault, &sent)),
     }
 }
 
@@ -309,29 +330,28 @@ pub(crate) fn source_of(
     FaultSource::new(alloc, file, mode, gives.bytes, gives.then_fails).expect(rt, "memory")
 }
 
-/// Opens the end, with a source that gives this of the file. Its first datagram is appended to
-/// `sent`.
+/// Opens the end, with a source that gives this of the file. An end that is not opened has sent
+/// nothing.
 pub(crate) fn open(
     rt: &impl Abort,
     alloc: Global,
     opening: &Opening,
     gives: Gives,
-    sent: &mut Vec<u8>,
 ) -> Result<OpenEnd, OpenFault> {
     match *opening {
-        Opening::Get(name, mode, asked, config) => get(alloc, name, mode, &asked, &config, sent),
+        Opening::Get(name, mode, asked, config) => get(rt, alloc, name, mode, &asked, &config),
         Opening::Put(length, file, asked, config) => {
             let source = source_of(rt, alloc, file, Mode::Octet, gives);
-            put(alloc, &asked, &config, length, source, sent)
+            put(rt, alloc, &asked, &config, length, source)
         }
         Opening::ServeRead(request, mode, length, file) => {
             let source = source_of(rt, alloc, file, mode, gives);
             let agreed = agreed_of(rt, request, length);
-            serve_read(alloc, mode, &agreed, length, source, sent)
+            serve_read(rt, alloc, mode, &agreed, length, source)
         }
         Opening::ServeWrite(request, refuses_commit) => {
             let agreed = agreed_of(rt, request, 0);
-            serve_write(alloc, &agreed, refuses_commit, sent)
+            serve_write(rt, alloc, &agreed, refuses_commit)
         }
     }
 }
@@ -366,15 +386,16 @@ impl OpenEnd {
         &self.end
     }
 
-    /// Delivers a datagram. The answer is in `sent` alone.
-    pub(crate) fn takes(
-        &mut self,
-        from: Endpoint,
-        bytes: &[u8],
-        sent: &mut Vec<u8>,
-    ) -> Result<Step, EndFault> {
-        sent.clear();
-        self.end.on_datagram(&mut self.files, from, bytes, sent)
+    /// The datagram of the last event.
+    pub(crate) fn sent(&self) -> &[u8] {
+        self.sent.as_slice()
+    }
+
+    /// Delivers a datagram.
+    fn takes(&mut self, from: Endpoint, bytes: &[u8]) -> Result<Step, EndFault> {
+        self.sent.clear();
+        self.end
+            .on_datagram(&mut self.files, from, bytes, &mut self.sent)
     }
 
     /// Delivers a datagram of a scene, which is answered so.
@@ -382,20 +403,21 @@ impl OpenEnd {
         &mut self,
         rt: &impl Abort,
         (scene, bytes): (&str, &[u8]),
-        sent: &mut Vec<u8>,
         from: Endpoint,
         answer: &[u8],
         then: Then,
     ) {
-        let step = self.takes(from, bytes, sent);
-        is_done(
-            rt,
-            (scene, bytes),
-            (sent.as_slice(), step),
-            answer,
-            from,
-            then,
-        );
+        let step = self.takes(from, bytes);
+        let found = (self.sent.as_slice(), step);
+        is_done(rt, (scene, bytes), found, answer, from, then);
+    }
+
+    /// Delivers a timeout of a scene, after which the end sends this.
+    fn times_out(&mut self, rt: &impl Abort, scene: &str, answer: &[u8], to: Endpoint, then: Then) {
+        self.sent.clear();
+        let step = self.end.on_timeout(&mut self.sent);
+        let found = (self.sent.as_slice(), step);
+        is_done(rt, (scene, b"timeout"), found, answer, to, then);
     }
 
     /// As [`is_done`], of a call that lends the answer.
@@ -448,23 +470,12 @@ impl OpenEnd {
     }
 
     /// Plays one event of a scene.
-    pub(crate) fn plays(
-        &mut self,
-        rt: &impl Abort,
-        scene: &str,
-        event: &Event,
-        sent: &mut Vec<u8>,
-    ) {
+    fn plays(&mut self, rt: &impl Abort, scene: &str, event: &Event) {
         match *event {
             Event::Arrives(from, bytes, answer, then) => {
-                self.answers(rt, (scene, bytes), sent, from, answer, then);
+                self.answers(rt, (scene, bytes), from, answer, then);
             }
-            Event::TimesOut(answer, to, then) => {
-                sent.clear();
-                let step = self.end.on_timeout(sent);
-                let event = (scene, b"timeout".as_slice());
-                is_done(rt, event, (sent.as_slice(), step), answer, to, then);
-            }
+            Event::TimesOut(answer, to, then) => self.times_out(rt, scene, answer, to, then),
             Event::Lends(from, bytes, answer, then) => {
                 let found = self.end.handle_datagram(&mut self.files, from, bytes);
                 self.has_lent(rt, (scene, bytes), found, answer, from, then);
@@ -479,13 +490,13 @@ impl OpenEnd {
 }
 
 /// Plays the scene, and returns its end.
-pub(crate) fn play(rt: &impl Abort, alloc: Global, scene: &Scene, sent: &mut Vec<u8>) -> OpenEnd {
-    let mut end = open(rt, alloc, &scene.opening, WHOLE, sent).expect(rt, scene.name);
+pub(crate) fn play(rt: &impl Abort, alloc: Global, scene: &Scene) -> OpenEnd {
+    let mut end = open(rt, alloc, &scene.opening, WHOLE).expect(rt, scene.name);
     let (first, to) = scene.sends;
-    let found = (sent.as_slice(), Ok(end.first));
+    let found = (end.sent.as_slice(), Ok(end.first));
     is_done(rt, (scene.name, b"opening"), found, first, to, STAYS);
     for event in scene.events {
-        end.plays(rt, scene.name, event, sent);
+        end.plays(rt, scene.name, event);
     }
     end
 }
@@ -493,33 +504,24 @@ pub(crate) fn play(rt: &impl Abort, alloc: Global, scene: &Scene, sent: &mut Vec
 /// Plays each scene.
 pub(crate) fn play_each(rt: &impl Abort, alloc: Global, scenes: &[Scene]) {
     for scene in scenes {
-        play(rt, alloc, scene, &mut Vec::new(alloc)).finish();
+        play(rt, alloc, scene).finish();
     }
 }
 
 /// Openings that are refused with this fault, each with its name. Nothing is sent.
 pub(crate) fn refuses_each(rt: &impl Abort, alloc: Global, refused: &[(&str, Opening, OpenFault)]) {
     for &(name, opening, fault) in refused {
-        let mut sent = Vec::new(alloc);
-        let found = open(rt, alloc, &opening, WHOLE, &mut sent).err();
-        expect_equal(rt, &(found, sent.is_empty()), &(Some(fault), true), name);
+        let found = open(rt, alloc, &opening, WHOLE).err();
+        expect_equal(rt, &found, &Some(fault), name);
     }
 }
 
 /// Delivers the server's datagram to the client, and the answer to the server. Returns how many
-/// datagrams that adds. `asks` and `answers` are the last datagrams of the client and the server.
-pub(crate) fn round(
-    rt: &impl Abort,
-    client: &mut OpenEnd,
-    server: &mut OpenEnd,
-    asks: &mut Vec<u8>,
-    answers: &mut Vec<u8>,
-) -> u32 {
-    client
-        .takes(SERVER_END, answers, asks)
-        .expect(rt, "the client takes it");
-    server
-        .takes(CLIENT, asks, answers)
-        .expect(rt, "the server takes it");
-    if answers.is_empty() { 1 } else { 2 }
+/// datagrams that adds.
+pub(crate) fn round(rt: &impl Abort, client: &mut OpenEnd, server: &mut OpenEnd) -> u32 {
+    let answer = client.takes(SERVER_END, &server.sent);
+    answer.expect(rt, "the client takes it");
+    let next = server.takes(CLIENT, &client.sent);
+    next.expect(rt, "the server takes it");
+    if server.sent.is_empty() { 1 } else { 2 }
 }

@@ -140,8 +140,7 @@ static MALFORMED: [&[u8]; 13] = [
 /// The end handles the datagram: it sends ERROR 4, or nothing if the datagram begins as an ERROR,
 /// and closes. A dallying end ignores it.
 fn is_refused(rt: &impl Abort, alloc: Global, (scene, from, dallies): &State, bytes: &[u8]) {
-    let mut sent = Vec::new(alloc);
-    let mut end = play(rt, alloc, scene, &mut sent);
+    let mut end = play(rt, alloc, scene);
     let silent = *dallies || bytes.starts_with(b"\x00\x05");
     let answer = if silent { b"".as_slice() } else { ILLEGAL };
     let then = if *dallies {
@@ -149,7 +148,7 @@ fn is_refused(rt: &impl Abort, alloc: Global, (scene, from, dallies): &State, by
     } else {
         Ok((false, Some(Outcome::Illegal)))
     };
-    end.answers(rt, (scene.name, bytes), &mut sent, *from, answer, then);
+    end.answers(rt, (scene.name, bytes), *from, answer, then);
     end.finish();
 }
 
