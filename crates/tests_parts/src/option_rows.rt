@@ -1,7 +1,7 @@
 //! Options of requests and of OACKs, and the results (RFC 2347; RFC 2348; RFC 2349).
 //!
-//! A row has the options as `name=value`, separated by commas, and the result: the agreed list and
-//! the block size, or the refusal.
+//! A row is a line of a text: the options as `name=value`, separated by commas, an arrow, and the
+//! result, which is the agreed list and the block size, or the refusal.
 
 use crate::expect::{expect, expect_equal};
 use crate::open_end::NOTHING;
@@ -70,11 +70,7 @@ enum Party {
 }
 
 /// A party, the kinds and modes in which it handles the options of each row, and the rows.
-type Group = (
-    Party,
-    &'static [(Kind, Mode)],
-    &'static [(&'static str, &'static str)],
-);
+type Group = (Party, &'static [(Kind, Mode)], &'static str);
 
 /// Each kind in each mode.
 const DIRECTIONS: &[(Kind, Mode)] = &[
@@ -86,136 +82,116 @@ const DIRECTIONS: &[(Kind, Mode)] = &[
 
 /// The first two rows have the options of a request in two orders; the answer has the same order
 /// (RFC 2347: the order of options has no meaning).
-const LIMITED: &[(&str, &str)] = &[
-    ("BLKSIZE=1428,timeout=3", "[Blksize(1428), Timeout(3)] 1428"),
-    ("timeout=3,BLKSIZE=1428", "[Timeout(3), Blksize(1428)] 1428"),
-    ("blksize=65464", "[Blksize(1428)] 1428"),
-    ("blksize=1429", "[Blksize(1428)] 1428"),
-    ("blksize=1427", "[Blksize(1427)] 1427"),
-    ("blksize=7", "[] 512"),
-    ("blksize=08", "[] 512"),
-    ("blksize=512,BLKSIZE=512", "Repeated"),
-    ("tsize=0", "[Tsize(10)] 512"),
-    ("", "[] 512"),
-];
+const LIMITED: &str = "\
+BLKSIZE=1428,timeout=3 -> [Blksize(1428), Timeout(3)] 1428
+timeout=3,BLKSIZE=1428 -> [Timeout(3), Blksize(1428)] 1428
+blksize=65464 -> [Blksize(1428)] 1428
+blksize=1429 -> [Blksize(1428)] 1428
+blksize=1427 -> [Blksize(1427)] 1427
+blksize=7 -> [] 512
+blksize=08 -> [] 512
+blksize=512,BLKSIZE=512 -> Repeated
+tsize=0 -> [Tsize(10)] 512
+ -> [] 512";
 
 /// The ranges of RFC 2348 (8 to 65,464) and RFC 2349 (1 to 255), in both modes, both ways.
-const RANGES: &[(&str, &str)] = &[
-    ("blksize=0", "[] 512"),
-    ("blksize=7", "[] 512"),
-    ("blksize=8", "[Blksize(8)] 8"),
-    ("blksize=65464", "[Blksize(65464)] 65464"),
-    ("blksize=65465", "[] 512"),
-    ("blksize=65536", "[] 512"),
-    ("blksize=65544", "[] 512"),
-    ("blksize=18446744073709551615", "[] 512"),
-    ("timeout=0", "[] 512"),
-    ("timeout=1", "[Timeout(1)] 512"),
-    ("timeout=255", "[Timeout(255)] 512"),
-    ("timeout=256", "[] 512"),
-    ("timeout=257", "[] 512"),
-    ("windowsize=4", "[] 512"),
-    ("windowsize=4,windowsize=4", "[] 512"),
-    ("blksiz=8", "[] 512"),
-    ("blksizes=8", "[] 512"),
-    ("bLkSiZe=8,TimeOut=9", "[Blksize(8), Timeout(9)] 8"),
-    ("blksize=x,blksize=y", "Repeated"),
-    ("timeout=3,windowsize=4,TIMEOUT=3", "Repeated"),
-    ("tsize=x,tsize=y", "Repeated"),
-];
+const RANGES: &str = "\
+blksize=0 -> [] 512
+blksize=7 -> [] 512
+blksize=8 -> [Blksize(8)] 8
+blksize=65464 -> [Blksize(65464)] 65464
+blksize=65465 -> [] 512
+blksize=65536 -> [] 512
+blksize=65544 -> [] 512
+blksize=18446744073709551615 -> [] 512
+timeout=0 -> [] 512
+timeout=1 -> [Timeout(1)] 512
+timeout=255 -> [Timeout(255)] 512
+timeout=256 -> [] 512
+timeout=257 -> [] 512
+windowsize=4 -> [] 512
+windowsize=4,windowsize=4 -> [] 512
+blksiz=8 -> [] 512
+blksizes=8 -> [] 512
+bLkSiZe=8,TimeOut=9 -> [Blksize(8), Timeout(9)] 8
+blksize=x,blksize=y -> Repeated
+timeout=3,windowsize=4,TIMEOUT=3 -> Repeated
+tsize=x,tsize=y -> Repeated";
 
 /// A read requests 0 and is answered by the length, here 10. A write states its length (RFC 2349).
 /// In netascii the option is omitted.
-const READ_LENGTHS: &[(&str, &str)] = &[
-    ("tsize=0", "[Tsize(10)] 512"),
-    ("tsize=1", "[] 512"),
-    ("tsize=10", "[] 512"),
-];
+const READ_LENGTHS: &str = "\
+tsize=0 -> [Tsize(10)] 512
+tsize=1 -> [] 512
+tsize=10 -> [] 512";
 
-const WRITE_LENGTHS: &[(&str, &str)] = &[
-    ("tsize=0", "[Tsize(0)] 512"),
-    ("tsize=1000", "[Tsize(1000)] 512"),
-    ("tsize=1001", "TooLarge"),
-    ("timeout=1,tsize=1001,blksize=8", "TooLarge"),
-    ("tsize=1001,tsize=1", "Repeated"),
-];
+const WRITE_LENGTHS: &str = "\
+tsize=0 -> [Tsize(0)] 512
+tsize=1000 -> [Tsize(1000)] 512
+tsize=1001 -> TooLarge
+timeout=1,tsize=1001,blksize=8 -> TooLarge
+tsize=1001,tsize=1 -> Repeated";
 
-const NETASCII_LENGTHS: &[(&str, &str)] = &[
-    ("tsize=1", "[] 512"),
-    ("tsize=1001", "[] 512"),
-    ("tsize=1,tsize=1", "Repeated"),
-];
+const NETASCII_LENGTHS: &str = "\
+tsize=1 -> [] 512
+tsize=1001 -> [] 512
+tsize=1,tsize=1 -> Repeated";
 
-const LARGEST_LENGTH: &[(&str, &str)] = &[(
-    "tsize=18446744073709551615",
-    "[Tsize(18446744073709551615)] 512",
-)];
+const LARGEST_LENGTH: &str = "\
+tsize=18446744073709551615 -> [Tsize(18446744073709551615)] 512";
 
 /// OACKs for a client that requested a block size.
-const SIZE_OACKS: &[(&str, &str)] = &[
-    ("blksize=512", "[Blksize(512)] 512"),
-    ("BLKSIZE=8", "[Blksize(8)] 8"),
-    ("blksize=1428", "[Blksize(1428)] 1428"),
-    ("", "[] 512"),
-    ("blksize=1429,timeout=3", "BadValue"),
-    ("timeout=3,blksize=7", "NotAsked"),
-    ("blksize=7,blksize=512", "Repeated"),
-    ("blksize=7", "BadValue"),
-    ("timeout=3,timeout=3", "Repeated"),
-    ("windowsize=4", "NotAsked"),
-    ("windowsize=4,windowsize=4", "NotAsked"),
-];
+const SIZE_OACKS: &str = "\
+blksize=512 -> [Blksize(512)] 512
+BLKSIZE=8 -> [Blksize(8)] 8
+blksize=1428 -> [Blksize(1428)] 1428
+ -> [] 512
+blksize=1429,timeout=3 -> BadValue
+timeout=3,blksize=7 -> NotAsked
+blksize=7,blksize=512 -> Repeated
+blksize=7 -> BadValue
+timeout=3,timeout=3 -> Repeated
+windowsize=4 -> NotAsked
+windowsize=4,windowsize=4 -> NotAsked";
 
 /// OACKs for a client that requested the length of the file.
-const LENGTH_OACKS: &[(&str, &str)] = &[
-    ("tsize=1000", "[Tsize(1000)] 512"),
-    ("tsize=1001", "TooLarge"),
-    ("tsize=01", "BadValue"),
-    ("tsize=18446744073709551616", "BadValue"),
-    ("tsize=1001,windowsize=4", "TooLarge"),
-    ("windowsize=4,tsize=1001", "NotAsked"),
-];
+const LENGTH_OACKS: &str = "\
+tsize=1000 -> [Tsize(1000)] 512
+tsize=1001 -> TooLarge
+tsize=01 -> BadValue
+tsize=18446744073709551616 -> BadValue
+tsize=1001,windowsize=4 -> TooLarge
+windowsize=4,tsize=1001 -> NotAsked";
 
 /// OACKs for a client that requested a timeout.
-const WAIT_OACKS: &[(&str, &str)] = &[
-    ("timeout=3", "[Timeout(3)] 512"),
-    ("timeout=4", "BadValue"),
-    ("timeout=2", "BadValue"),
-    ("timeout=259", "BadValue"),
-];
+const WAIT_OACKS: &str = "\
+timeout=3 -> [Timeout(3)] 512
+timeout=4 -> BadValue
+timeout=2 -> BadValue
+timeout=259 -> BadValue";
 
 /// OACKs for a client that requested no option.
-const UNASKED_OACKS: &[(&str, &str)] = &[
-    ("timeout=3", "NotAsked"),
-    ("blksize=512", "NotAsked"),
-    ("tsize=0", "NotAsked"),
-];
+const UNASKED_OACKS: &str = "\
+timeout=3 -> NotAsked
+blksize=512 -> NotAsked
+tsize=0 -> NotAsked";
 
 /// The other modes and kinds: a write accepts only the length that it stated (RFC 2349), and in
 /// netascii no length counts as requested. The limit is 39 bytes.
-const STATED: &[(&str, &str)] = &[
-    ("tsize=41", "[Tsize(41)] 512"),
-    ("tsize=40", "BadValue"),
-    ("tsize=0", "BadValue"),
-];
+const STATED: &str = "\
+tsize=41 -> [Tsize(41)] 512
+tsize=40 -> BadValue
+tsize=0 -> BadValue";
 
-const WITHIN_LIMIT: &[(&str, &str)] = &[
-    ("tsize=39", "[Tsize(39)] 512"),
-    ("tsize=40", "TooLarge"),
-    (
-        "tsize=0,timeout=255,blksize=8",
-        "[Tsize(0), Timeout(255), Blksize(8)] 8",
-    ),
-];
+const WITHIN_LIMIT: &str = "\
+tsize=39 -> [Tsize(39)] 512
+tsize=40 -> TooLarge
+tsize=0,timeout=255,blksize=8 -> [Tsize(0), Timeout(255), Blksize(8)] 8";
 
-const NETASCII_OACKS: &[(&str, &str)] = &[
-    ("tsize=41", "NotAsked"),
-    ("tsize=41,tsize=41", "Repeated"),
-    (
-        "blksize=65464,timeout=255",
-        "[Blksize(65464), Timeout(255)] 65464",
-    ),
-];
+const NETASCII_OACKS: &str = "\
+tsize=41 -> NotAsked
+tsize=41,tsize=41 -> Repeated
+blksize=65464,timeout=255 -> [Blksize(65464), Timeout(255)] 65464";
 
 static GROUPS: [Group; 15] = [
     (Party::Server(TIGHT), &[(READ, OCTET)], LIMITED),
@@ -225,7 +201,7 @@ static GROUPS: [Group; 15] = [
     (
         Party::Server(TIGHT),
         &[(READ, NETASCII)],
-        &[("tsize=0", "[] 512")],
+        "tsize=0 -> [] 512",
     ),
     (Party::Server(TIGHT), &[(WRITE, NETASCII)], NETASCII_LENGTHS),
     (Party::Server(ROOMY), &[(WRITE, OCTET)], LARGEST_LENGTH),
@@ -242,7 +218,7 @@ static GROUPS: [Group; 15] = [
     (
         Party::Client(ALL, 39),
         &[(READ, NETASCII)],
-        &[("tsize=39", "NotAsked")],
+        "tsize=39 -> NotAsked",
     ),
     (Party::Client(ALL, 39), &[(WRITE, NETASCII)], NETASCII_OACKS),
 ];
@@ -332,8 +308,9 @@ fn handles(
 
 fn handles_each(rt: &impl Abort, alloc: Global, (party, directions, rows): &Group) {
     for &direction in *directions {
-        for &(row, expected) in *rows {
-            handles(rt, alloc, party, direction, row, expected);
+        for row in rows.split('\n') {
+            let (options, expected) = row.split_once(" -> ").expect(rt, row);
+            handles(rt, alloc, party, direction, options, expected);
         }
     }
 }
