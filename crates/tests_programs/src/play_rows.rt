@@ -1,48 +1,70 @@
 //! Runs of `tftp-play` over memory whose streams fail.
 
-use crate::expect::{expect, expect_bytes, expect_equal};
-use crate::faulty_streams::{Breaks, Closed, Full};
+use crate::expect::expect_equal;
+use crate::faulty_streams::{Input, Output, Takes};
 use std::io::{self, ErrorKind};
 use tftp_play::{play_drawn, play_run};
 
-/// A script cannot be read to its end: nothing is played.
-#[test]
-fn a_script_breaks_off(rt: HostRuntime) {
-    let mut output = Vec::new(rt.alloc());
-    let mut errors = Vec::new(rt.alloc());
-    let broken = Breaks(b"get a octet\n");
-    let status = play_run(rt.alloc(), broken, &mut output, &mut errors);
-    expect_equal(&rt, &status, &2, "the status");
-    expect(&rt, output.is_empty(), "nothing is played");
-    let message = b"script: unreadable\ntftp-play: the script: timed out\n".as_slice();
-    expect_bytes(&rt, errors.as_slice(), message, "the message");
+/// A run that fails, and plays nothing.
+struct Run {
+    script: &'static [u8],
+    /// Whether the script cannot be read to its end.
+    breaks: bool,
+    output: Takes,
+    errors: Takes,
+    message: &'static [u8],
 }
 
-#[test]
-fn an_output_takes_nothing(rt: HostRuntime) {
-    let mut errors = Vec::new(rt.alloc());
-    let script = b"get a octet\n".as_slice();
-    let status = play_run(rt.alloc(), script, Full, &mut errors);
-    expect_equal(&rt, &status, &2, "the status");
-    let message = b"output: unwritable\n".as_slice();
-    expect_bytes(&rt, errors.as_slice(), message, "the message");
-}
+static RUNS: [Run; 4] = [
+    Run {
+        script: b"get a octet\n",
+        breaks: true,
+        output: Takes::All,
+        errors: Takes::All,
+        message: b"script: unreadable\ntftp-play: the script: timed out\n",
+    },
+    Run {
+        script: b"get a octet\n",
+        breaks: false,
+        output: Takes::Full,
+        errors: Takes::All,
+        message: b"output: unwritable\n",
+    },
+    Run {
+        script: b"get a octet\n",
+        breaks: false,
+        output: Takes::Closed,
+        errors: Takes::All,
+        message: b"",
+    },
+    Run {
+        script: b"\xff\n",
+        breaks: false,
+        output: Takes::All,
+        errors: Takes::Full,
+        message: b"",
+    },
+];
 
 #[test]
-fn an_output_is_closed(rt: HostRuntime) {
-    let mut errors = Vec::new(rt.alloc());
-    let script = b"get a octet\n".as_slice();
-    let status = play_run(rt.alloc(), script, Closed, &mut errors);
-    expect_equal(&rt, &status, &2, "the status");
-    expect(&rt, errors.is_empty(), "no message");
-}
-
-#[test]
-fn a_message_cannot_be_written(rt: HostRuntime) {
-    let mut output = Vec::new(rt.alloc());
-    let status = play_run(rt.alloc(), b"\xff\n".as_slice(), &mut output, Full);
-    expect_equal(&rt, &status, &2, "the status");
-    expect(&rt, output.is_empty(), "nothing is played");
+fn runs_that_fail(rt: HostRuntime) {
+    for (row, run) in RUNS.iter().enumerate() {
+        let script = Input {
+            bytes: run.script,
+            breaks: run.breaks,
+        };
+        let mut output = Output::new(rt.alloc(), run.output);
+        let mut errors = Output::new(rt.alloc(), run.errors);
+        let status = play_run(rt.alloc(), script, &mut output, &mut errors);
+        let found = (
+            row,
+            status,
+            output.bytes.as_slice(),
+            errors.bytes.as_slice(),
+        );
+        let expected = (row, 2, b"".as_slice(), run.message);
+        expect_equal(&rt, &found, &expected, "the status, output and message");
+    }
 }
 
 /// If the picture cannot be opened, the output is that without it.
@@ -54,20 +76,14 @@ fn no_picture(rt: HostRuntime) {
         rt.alloc(),
         b"deliver 0\n".as_slice(),
         &mut output,
-        || -> io::Result<Full> { Err(io::Error::from(ErrorKind::NotFound)) },
+        || -> io::Result<Output> { Err(io::Error::from(ErrorKind::NotFound)) },
         &mut errors,
     );
-    expect_equal(&rt, &status, &2, "the status");
-    expect_bytes(
-        &rt,
-        output.as_slice(),
+    let found = (status, output.as_slice(), errors.as_slice());
+    let expected = (
+        2,
         b"refused NoSuchDatagram\n".as_slice(),
-        "the output",
-    );
-    expect_bytes(
-        &rt,
-        errors.as_slice(),
         b"svg: unwritable\ntftp-play: the picture: no such file or directory\n".as_slice(),
-        "the message",
     );
+    expect_equal(&rt, &found, &expected, "the status, output and message");
 }

@@ -1,225 +1,186 @@
 //! Writes at a server (RFC 1350, sections 2, 4 and 6): the files in the store, and stores that fail in
 //! a transfer. The answers are those of RFC 1350, section 5 and appendix I.
 
-ghost use Rattle.tftp_store.specs.FaultStore.{IsInjected};
-
-use crate::expect::{expect, expect_equal};
-use crate::served::Served;
-use crate::stores::{has_file, lacks_file, store_of};
+use crate::expect::expect_equal;
+use crate::served::Event::{Datagram, Draft, File, Request, Take, Timeout};
+use crate::served::Found::{Closed, Is, Nothing, Opened};
+use crate::served::{Scene, play, server_of};
+use crate::stores::{ABC, Setup, TestStore};
 use std::alloc::Global;
 use std::process::Abort;
-use tftp_ends::{Endpoint, Outcome};
+use tftp_ends::Outcome;
 use tftp_file::StoreFault;
-use tftp_server::{Config, FaultStore, MemStore, Store};
-
-const CLIENT: Endpoint = Endpoint {
-    ip: [10, 0, 0, 2],
-    port: 2000,
-};
-
-const OTHER: Endpoint = Endpoint {
-    ip: [10, 0, 0, 2],
-    port: 2001,
-};
+use tftp_server::Server;
 
 const WRITE: &[u8] = b"\x00\x02n\x00octet\x00";
 
-/// A store of the file `a` of the three bytes `ABC`.
-fn files(rt: &impl Abort, alloc: Global) -> MemStore {
-    store_of(rt, alloc, b"a", b"ABC")
-}
-
-/// A server over that store, which replaces no file.
-fn server(rt: &impl Abort, alloc: Global) -> Served<MemStore> {
-    Served::new(rt, alloc, Config::default(), files(rt, alloc))
-}
-
 const ACK_0: &[u8] = b"\x00\x04\x00\x00";
-
-/// A write request opens a transfer.
-fn open<S: Store>(rt: &impl Abort, served: &mut Served<S>) {
-    let opened = served.answers_request(rt, CLIENT, 1025, WRITE, ACK_0);
-    expect_equal(rt, &opened.tid, &Some(1025), "a transfer opens");
-}
 
 const DATA_A: &[u8] = b"\x00\x03\x00\x01A";
 
-const ACK_1: &[u8] = b"\x00\x04\x00\x01";
-
-/// The transfer's draft is committed.
-fn is_committed(rt: &impl Abort, served: &Served<MemStore>, tid: u16) {
-    let draft = served.server.draft(tid).expect(rt, "a draft");
-    expect(rt, draft.is_committed(), "its draft is committed");
-}
-
-/// The transfer has closed, and is returned with a draft of these bytes.
-fn hands_out(rt: &impl Abort, served: &mut Served<MemStore>, tid: u16, bytes: &[u8]) {
-    let taken = served.server.take_closed(tid);
-    let (record, draft) = taken.expect(rt, "a closed transfer");
-    let complete = Some(Outcome::Complete);
-    expect_equal(rt, &record.outcome, &complete, "how it ended");
-    let draft = draft.expect(rt, "a draft");
-    expect_equal(rt, &draft.as_bytes(), &bytes, "what it holds");
-}
-
-/// The transfer is open, and is not returned.
-fn keeps(rt: &impl Abort, served: &mut Served<MemStore>, tid: u16) {
-    let is_taken = served.server.take_closed(tid).is_some();
-    expect(rt, !is_taken, "it is open");
-}
-
-/// The file exists once it is committed, and only then the last block is acknowledged. The transfer
-/// is closed by its second timeout (RFC 1350, section 6), and returned with its draft.
-#[test]
-fn a_write_makes_a_file(rt: HostRuntime) {
-    let mut served = server(&rt, rt.alloc());
-    open(&rt, &mut served);
-    lacks_file(&rt, rt.alloc(), served.server.store(), b"n");
-    let closed = served.answers(&rt, CLIENT, 1025, DATA_A, ACK_1);
-    expect_equal(&rt, &closed, &None, "the receiver dallies");
-    has_file(&rt, rt.alloc(), served.server.store(), b"n", b"A");
-    is_committed(&rt, &served, 1025);
-    served.waits(&rt, 1025);
-    keeps(&rt, &mut served, 1025);
-    served.waits(&rt, 1025);
-    hands_out(&rt, &mut served, 1025, b"A");
-    served.finish();
-}
-
-/// DATA of this number: this byte, that many times.
-fn data(rt: &impl Abort, alloc: Global, number: u8, byte: u8, count: usize) -> Vec<u8> {
-    let mut bytes = Vec::from_slice(alloc, &[0, 3, 0, number]).expect(rt, "memory");
-    let block = vec![in alloc; byte; count].expect(rt, "memory");
-    bytes.extend_from_slice(&block).expect(rt, "memory");
-    bytes
-}
-
-/// A server of 600 letters in the file `a`, which may replace it.
-fn replacing_server(rt: &impl Abort, alloc: Global) -> Served<MemStore> {
-    let mut config = Config::default();
-    config.overwrite = true;
-    Served::new(rt, alloc, config, store_of(rt, alloc, b"a", &[b'a'; 600]))
-}
-
 const DATA_B: &[u8] = b"\x00\x03\x00\x01B";
 
-/// A read of a file that a write replaces continues with the file that it opened.
-fn replaces_what_is_read(rt: &impl Abort, alloc: Global) {
-    let mut served = replacing_server(rt, alloc);
-    let read = b"\x00\x01a\x00octet\x00";
-    let first = data(rt, alloc, 1, b'a', 512);
-    served.answers_request(rt, CLIENT, 1025, read, &first);
-    let replace = b"\x00\x02a\x00octet\x00";
-    served.answers_request(rt, OTHER, 1026, replace, ACK_0);
-    served.answers(rt, OTHER, 1026, DATA_B, ACK_1);
-    has_file(rt, alloc, served.server.store(), b"a", b"B");
-    let rest = data(rt, alloc, 2, b'a', 88);
-    served.answers(rt, CLIENT, 1025, ACK_1, &rest);
-    served.finish();
-}
-
-/// Two clients write a file of one name, and the first has committed its `A`. The `B` of the second
-/// has this answer, and then the file has these bytes.
-fn races(
-    rt: &impl Abort,
-    alloc: Global,
-    mut served: Served<MemStore>,
-    answer: &[u8],
-    bytes: &[u8],
-) {
-    open(rt, &mut served);
-    served.answers_request(rt, OTHER, 1027, WRITE, ACK_0);
-    served.answers(rt, CLIENT, 1025, DATA_A, ACK_1);
-    served.answers(rt, OTHER, 1027, DATA_B, answer);
-    has_file(rt, alloc, served.server.store(), b"n", bytes);
-    served.finish();
-}
+const ACK_1: &[u8] = b"\x00\x04\x00\x01";
 
 const FILE_EXISTS: &[u8] = b"\x00\x05\x00\x06file exists\x00";
-
-/// The last commit counts where files may be replaced, and else the first.
-#[test]
-fn overwrite_rows(rt: HostRuntime) {
-    let rt = &rt;
-    races(
-        rt,
-        rt.alloc(),
-        replacing_server(rt, rt.alloc()),
-        ACK_1,
-        b"B",
-    );
-    races(rt, rt.alloc(), server(rt, rt.alloc()), FILE_EXISTS, b"A");
-    replaces_what_is_read(rt, rt.alloc());
-}
 
 const DISK_FULL: &[u8] = b"\x00\x05\x00\x03disk full\x00";
 
 const VIOLATION: &[u8] = b"\x00\x05\x00\x02access violation\x00";
 
-/// A server over a store that refuses the call of this number.
-fn failing(
-    rt: &impl Abort,
-    alloc: Global,
-    at: u64,
-    fault: StoreFault,
-) -> Served<FaultStore<MemStore>>
-    requires { IsInjected fault }
-{
-    let store = FaultStore::new(files(rt, alloc), at, fault, false, false);
-    Served::new(rt, alloc, Config::default(), store)
-}
+/// A store that refuses its first call, `begin`.
+const CANNOT_BEGIN: Setup = Setup {
+    refused_call: 0,
+    ..ABC
+};
 
-/// The first call of the store, `begin`, fails: the request has this answer, and opens no transfer.
-fn cannot_begin(rt: &impl Abort, alloc: Global, fault: StoreFault, answer: &[u8])
-    requires { IsInjected fault }
-{
-    let mut served = failing(rt, alloc, 0, fault);
-    let opened = served.answers_request(rt, CLIENT, 1025, WRITE, answer);
-    expect_equal(rt, &opened.tid, &None, "no transfer");
-    served.finish();
-}
+const CANNOT_BEGIN_FULL: Setup = Setup {
+    refused_call: 0,
+    fault: StoreFault::Full,
+    ..ABC
+};
+
+/// Scenes of clients at the ports 2000 and 2001, and whether the server replaces files.
+static SCENES: [(bool, Setup, Scene); 5] = [
+    // The file exists once it is committed, and only then the last block is acknowledged. The
+    // receiver dallies. Its second timeout closes the transfer (RFC 1350, section 6), which is
+    // returned with its draft.
+    (
+        false,
+        ABC,
+        &[
+            (Request(2000, 1025, WRITE), Opened(1025), ACK_0),
+            (File(b"n"), Is(false), b""),
+            (Datagram(2000, 1025, DATA_A), Nothing, ACK_1),
+            (File(b"n"), Is(true), b"A"),
+            (Draft(1025), Is(true), b"A"),
+            (Timeout(1025), Nothing, b""),
+            (Take(1025), Nothing, b""),
+            (Timeout(1025), Closed(Outcome::Complete), b""),
+            (Take(1025), Closed(Outcome::Complete), b"A"),
+        ],
+    ),
+    // Two clients write a file of one name. The last commit counts where files may be replaced,
+    (
+        true,
+        ABC,
+        &[
+            (Request(2000, 1025, WRITE), Opened(1025), ACK_0),
+            (Request(2001, 1027, WRITE), Opened(1027), ACK_0),
+            (Datagram(2000, 1025, DATA_A), Nothing, ACK_1),
+            (Datagram(2001, 1027, DATA_B), Nothing, ACK_1),
+            (File(b"n"), Is(true), b"B"),
+        ],
+    ),
+    // and else the first.
+    (
+        false,
+        ABC,
+        &[
+            (Request(2000, 1025, WRITE), Opened(1025), ACK_0),
+            (Request(2001, 1027, WRITE), Opened(1027), ACK_0),
+            (Datagram(2000, 1025, DATA_A), Nothing, ACK_1),
+            (
+                Datagram(2001, 1027, DATA_B),
+                Closed(Outcome::StoreFault),
+                FILE_EXISTS,
+            ),
+            (File(b"n"), Is(true), b"A"),
+        ],
+    ),
+    // A draft that cannot be begun opens no transfer.
+    (
+        false,
+        CANNOT_BEGIN_FULL,
+        &[(Request(2000, 1025, WRITE), Nothing, DISK_FULL)],
+    ),
+    (
+        false,
+        CANNOT_BEGIN,
+        &[(Request(2000, 1025, WRITE), Nothing, VIOLATION)],
+    ),
+];
 
 #[test]
-fn a_draft_that_cannot_be_begun(rt: HostRuntime) {
-    cannot_begin(&rt, rt.alloc(), StoreFault::Full, DISK_FULL);
-    cannot_begin(&rt, rt.alloc(), StoreFault::Io, VIOLATION);
+fn scenes_of_writes(rt: HostRuntime) {
+    for &(overwrite, setup, scene) in &SCENES {
+        let mut server = server_of(&rt, rt.alloc(), 16, overwrite, &setup);
+        play(&rt, rt.alloc(), &mut server, scene);
+    }
 }
 
-/// The block of this number of a write of five: 512 bytes, or three of the fifth and last.
-fn block(rt: &impl Abort, alloc: Global, number: u8) -> Vec<u8> {
-    let count = if number < 5 { 512 } else { 3 };
-    data(rt, alloc, number, number, count)
+/// DATA of this number and length in bytes, whose block is of this byte.
+fn data(rt: &impl Abort, alloc: Global, number: u8, byte: u8, length: usize) -> Vec<u8> {
+    let mut bytes = Vec::from_slice(alloc, &[0, 3, 0, number]).expect(rt, "memory");
+    bytes.resize(length, byte).expect(rt, "memory");
+    bytes
 }
 
-/// The block of this number arrives, and is acknowledged.
-fn acknowledges<S: Store>(rt: &impl Abort, alloc: Global, served: &mut Served<S>, number: u8) {
-    let bytes = block(rt, alloc, number);
-    let closed = served.answers(rt, CLIENT, 1025, &bytes, &[0, 4, 0, number]);
-    expect_equal(rt, &(number, closed), &(number, None), "it stays open");
-}
+/// A file of 600 letters.
+const LETTERS: Setup = Setup {
+    file: &[b'a'; 600],
+    ..ABC
+};
 
-/// The block of this number arrives, and the store refuses it.
-fn refuses<S: Store>(rt: &impl Abort, alloc: Global, served: &mut Served<S>, number: u8) {
-    let bytes = block(rt, alloc, number);
-    let closed = served.answers(rt, CLIENT, 1025, &bytes, DISK_FULL);
-    let expected = (number, Some(Outcome::StoreFault));
-    expect_equal(rt, &(number, closed), &expected, "how it closes");
+/// A read of a file that a write replaces continues with the file that it opened.
+#[test]
+fn a_write_replaces_what_is_read(rt: HostRuntime) {
+    let mut server = server_of(&rt, rt.alloc(), 16, true, &LETTERS);
+    let first = data(&rt, rt.alloc(), 1, b'a', 516);
+    let rest = data(&rt, rt.alloc(), 2, b'a', 92);
+    let scene = [
+        (
+            Request(2000, 1025, b"\x00\x01a\x00octet\x00"),
+            Opened(1025),
+            first.as_slice(),
+        ),
+        (
+            Request(2001, 1026, b"\x00\x02a\x00octet\x00"),
+            Opened(1026),
+            ACK_0,
+        ),
+        (Datagram(2001, 1026, DATA_B), Nothing, ACK_1),
+        (File(b"a"), Is(true), b"B"),
+        (Datagram(2000, 1025, ACK_1), Nothing, rest.as_slice()),
+    ];
+    play(&rt, rt.alloc(), &mut server, &scene);
 }
 
 /// In a write of five blocks the store refuses the call of this number: the first is `begin`, then
-/// an append for each block, and the commit. `blocks` are acknowledged before.
-fn fails_there(rt: &impl Abort, alloc: Global, at: u64, fault: StoreFault, blocks: u8)
-    requires { IsInjected fault }
-{
-    let mut served = failing(rt, alloc, at, fault);
-    open(rt, &mut served);
-    for number in 1..=blocks {
-        acknowledges(rt, alloc, &mut served, number);
+/// an append for each block, and the commit. Four blocks have 512 bytes and the last has three, and
+/// this many are acknowledged before. Returns the server.
+fn fails_there(
+    rt: &impl Abort,
+    alloc: Global,
+    refused_call: u64,
+    fault: StoreFault,
+    blocks: u8,
+) -> Server<TestStore> {
+    let setup = Setup {
+        refused_call,
+        fault,
+        ..ABC
+    };
+    let mut server = server_of(rt, alloc, 16, false, &setup);
+    let opening = (Request(2000, 1025, WRITE), Opened(1025), ACK_0);
+    play(rt, alloc, &mut server, &[opening]);
+    for number in 1..=5 {
+        let bytes = data(rt, alloc, number, number, if number < 5 { 516 } else { 7 });
+        let block = Datagram(2000, 1025, &bytes);
+        if number <= blocks {
+            play(
+                rt,
+                alloc,
+                &mut server,
+                &[(block, Nothing, &[0, 4, 0, number])],
+            );
+        } else {
+            let closed = Closed(Outcome::StoreFault);
+            play(rt, alloc, &mut server, &[(block, closed, DISK_FULL)]);
+            return server;
+        }
     }
-    if blocks < 5 {
-        refuses(rt, alloc, &mut served, blocks + 1);
-    }
-    served.finish();
+    server
 }
 
 /// The call that is refused, and the blocks before it; the seventh is after them all.
@@ -228,28 +189,22 @@ const CALLS: [(u64, u8); 7] = [(1, 0), (2, 1), (3, 2), (4, 3), (5, 4), (6, 4), (
 #[test]
 fn fault_each(rt: HostRuntime) {
     for &(at, blocks) in &CALLS {
-        fails_there(&rt, rt.alloc(), at, StoreFault::Io, blocks);
-        fails_there(&rt, rt.alloc(), at, StoreFault::Full, blocks);
+        for fault in [StoreFault::Io, StoreFault::Full] {
+            drop(fails_there(&rt, rt.alloc(), at, fault, blocks));
+        }
     }
 }
 
-/// One block is stored, the write is not complete, and there is no file.
-fn keeps_one_block(rt: &impl Abort, alloc: Global, served: &Served<FaultStore<MemStore>>) {
-    lacks_file(rt, alloc, served.server.store().get_ref(), b"n");
-    let record = served.server.record(1025).expect(rt, "a transfer");
-    let found = (record.number, record.complete);
-    expect_equal(rt, &found, &(1, false), "one block is stored, of more");
-    let draft = served.server.draft(1025).expect(rt, "a draft");
-    expect_equal(rt, &draft.as_bytes().len(), &512, "the block");
-}
-
-/// A refused append leaves no file, and the blocks before it.
+/// A refused append leaves no file, and the block before it; the write is not complete.
 #[test]
 fn a_refused_append_keeps_what_was_stored(rt: HostRuntime) {
-    let mut served = failing(&rt, rt.alloc(), 2, StoreFault::Full);
-    open(&rt, &mut served);
-    acknowledges(&rt, rt.alloc(), &mut served, 1);
-    refuses(&rt, rt.alloc(), &mut served, 2);
-    keeps_one_block(&rt, rt.alloc(), &served);
-    served.finish();
+    let mut server = fails_there(&rt, rt.alloc(), 2, StoreFault::Full, 1);
+    let record = server.record(1025).expect(&rt, "a transfer");
+    let found = (record.number, record.complete);
+    expect_equal(&rt, &found, &(1, false), "one block is stored, of more");
+    let kept = [
+        (File(b"n"), Is(false), b"".as_slice()),
+        (Draft(1025), Is(false), &[1; 512]),
+    ];
+    play(&rt, rt.alloc(), &mut server, &kept);
 }

@@ -16,29 +16,22 @@ const READINGS: [(u64, u64); 5] = [
     (1_001, 1_201),
 ];
 
-#[test]
-fn a_watch_goes_on(rt: HostRuntime) {
-    let mut watch = Watch::new(5_000);
-    for &(reading, time) in &READINGS {
-        expect_equal(
-            &rt,
-            &(reading, watch.advance(reading)),
-            &(reading, time),
-            "the time",
-        );
-    }
-}
-
 /// The seconds until a timeout, and when a transfer of the time 700 is due.
 const DEADLINES: [(u16, u64); 2] = [(1, 1_700), (2_040, 2_040_700)];
 
 #[test]
-fn a_transfer_is_due(rt: HostRuntime) {
+fn a_watch_goes_on_until_a_transfer_is_due(rt: HostRuntime) {
+    let mut watch = Watch::new(5_000);
+    for &(reading, time) in &READINGS {
+        let found = (reading, watch.advance(reading));
+        expect_equal(&rt, &found, &(reading, time), "the time");
+    }
     for &(seconds, expected) in &DEADLINES {
+        let found = (u64::from(seconds), deadline(700, seconds));
         expect_equal(
             &rt,
-            &(seconds, deadline(700, seconds)),
-            &(seconds, expected),
+            &found,
+            &(u64::from(seconds), expected),
             "when it is due",
         );
     }
@@ -46,6 +39,7 @@ fn a_transfer_is_due(rt: HostRuntime) {
     expect(&rt, is_due(1_700, 1_700), "at the time");
 }
 
+/// The port of a transfer, and when it is looked at.
 fn port(tid: u16, look_at: u64) -> Port<()> {
     Port {
         tid,
@@ -55,19 +49,23 @@ fn port(tid: u16, look_at: u64) -> Port<()> {
     }
 }
 
+/// The nearest deadline is waited for, or a second without a port.
 #[test]
 fn the_nearest_deadline_is_waited_for(rt: HostRuntime) {
     let ports = [port(1030, 900), port(1025, 750), port(1027, 800)];
-    expect_equal(&rt, &wait_for(700, &ports), &50, "the nearest");
-    expect_equal(&rt, &wait_for(760, &ports), &0, "one that has come");
+    let waits = (
+        wait_for(700, &ports),
+        wait_for(760, &ports),
+        wait_for::<()>(700, &[]),
+    );
     expect_equal(
         &rt,
-        &wait_for::<()>(700, &[]),
-        &1_000,
-        "a second without a port",
+        &waits,
+        &(50, 0, 1_000),
+        "the nearest, one that has come, none",
     );
-    expect_equal(&rt, &index_of(1027, &ports), &Some(2), "the third port");
-    expect_equal(&rt, &index_of(1040, &ports), &None, "no such port");
+    let found = (index_of(1027, &ports), index_of(1040, &ports));
+    expect_equal(&rt, &found, &(Some(2), None), "the third port, and no port");
 }
 
 /// Outcomes, whether a block size was requested, and whether the transfer is tried again.
@@ -87,11 +85,8 @@ fn options_are_left_out_where_they_are_refused(rt: HostRuntime) {
             timeout: None,
             tsize: None,
         };
-        expect_equal(
-            &rt,
-            &(outcome, blksize, fallback(outcome, &asked)),
-            &(outcome, blksize, expected),
-            "whether it is tried again",
-        );
+        let found = (outcome, blksize, fallback(outcome, &asked));
+        let expected = (outcome, blksize, expected);
+        expect_equal(&rt, &found, &expected, "whether it is tried again");
     }
 }
