@@ -1,13 +1,14 @@
 //! Stores that are set to fail, and the answers of the request port. The answers are those of RFC
 //! 1350, section 5 and appendix I.
 
-use crate::expect::{expect, expect_equal};
+use crate::expect::expect_equal;
 use crate::served::Event::{Datagram, Request};
 use crate::served::Found::{Closed, Nothing, Opened};
-use crate::served::{Scene, play, server_of};
-use crate::stores::{ABC, OldFile, Setup, Writes, path, store_of, writes};
+use crate::served::{Events, play_each};
+use crate::stores::{ABC, OldFile, Setup, Writes, has_file, path, store_of, writes};
+use std::process::Abort;
 use tftp_ends::Outcome;
-use tftp_file::StoreFault;
+use tftp_file::{Path, StoreFault};
 use tftp_server::Store;
 
 /// A read request for the file `a`.
@@ -45,7 +46,7 @@ const REFUSES_WRITES: Setup = Setup {
     ..ABC
 };
 
-static READS: [(Setup, Scene); 5] = [
+static READS: [(Setup, Events); 5] = [
     // Any fault except a missing file is an access violation.
     (
         CANNOT_OPEN,
@@ -85,10 +86,7 @@ static READS: [(Setup, Scene); 5] = [
 
 #[test]
 fn reads_of_failing_stores(rt: HostRuntime) {
-    for &(setup, scene) in &READS {
-        let mut server = server_of(&rt, rt.alloc(), 16, false, &setup);
-        play(&rt, rt.alloc(), &mut server, scene);
-    }
+    play_each(&rt, rt.alloc(), &READS);
 }
 
 /// The write whose call fails leaves no file, and the next one does.
@@ -143,19 +141,32 @@ fn one_call_is_refused(rt: HostRuntime) {
     writes(&rt, rt.alloc(), &ARMED, b"n", REFUSED_AS_FULL);
 }
 
+/// The draft is committed, with this result.
+fn commits<S: Store>(
+    rt: &impl Abort,
+    store: &mut S,
+    path: &Path,
+    draft: &mut S::Draft,
+    expected: Result<(), StoreFault>,
+) {
+    expect_equal(
+        rt,
+        &store.commit(path, draft, false),
+        &expected,
+        "the commit",
+    );
+}
+
 /// A commit that the inner store is set to refuse is refused, and stores nothing; the next one
 /// stores the draft.
 #[test]
 fn the_inner_store_refuses_a_commit_as_armed(rt: HostRuntime) {
-    let mut store = store_of(&rt, rt.alloc(), &ARMED);
     let path = path(&rt, rt.alloc(), b"n");
+    let mut store = store_of(&rt, rt.alloc(), &ARMED);
     let draft = store.begin(rt.alloc(), &path, false);
     let mut draft = draft.expect(&rt, "a draft");
-    let full = store.commit(&path, &mut draft, false);
-    expect_equal(&rt, &full, &Err(StoreFault::Full), "it is refused");
-    expect(&rt, store.get_ref().file(&path).is_none(), "no file");
-    let again = store.commit(&path, &mut draft, false);
-    expect_equal(&rt, &again, &Ok(()), "the next one");
-    let file = store.get_ref().file(&path);
-    expect_equal(&rt, &file, &Some(b"".as_slice()), "an empty file");
+    commits(&rt, &mut store, &path, &mut draft, Err(StoreFault::Full));
+    has_file(&rt, &store, &path, None);
+    commits(&rt, &mut store, &path, &mut draft, Ok(()));
+    has_file(&rt, &store, &path, Some(b""));
 }

@@ -4,12 +4,12 @@
 use crate::expect::{expect, expect_equal};
 use crate::served::Event::{Datagram, MayOpen, Request, Take};
 use crate::served::Found::{Closed, Fault, Is, Nothing, Opened};
-use crate::served::{Found, Scene, client, play, server_of};
-use crate::stores::{ABC, TestStore};
+use crate::served::{Events, Found, client, play, play_each, server_of};
+use crate::stores::{ABC, Setup};
 use std::alloc::Global;
 use std::process::Abort;
 use tftp_ends::{Outcome, Outgoing};
-use tftp_server::{Server, ServerFault};
+use tftp_server::{Server, ServerFault, Store};
 
 /// The request for the file `a`, in octet.
 const REQUEST: &[u8] = b"\x00\x01a\x00octet\x00";
@@ -21,11 +21,14 @@ const ACK_1: &[u8] = b"\x00\x04\x00\x01";
 
 const COMPLETE: Found = Closed(Outcome::Complete);
 
-/// Scenes at a server of the file `a`, each with the limit of transfers.
-static SCENES: [(u8, Scene); 4] = [
+/// A server with room for one transfer.
+const ONE_SLOT: Setup = Setup { cap: 1, ..ABC };
+
+/// Scenes at a server of the file `a`.
+static SCENES: [(Setup, Events); 4] = [
     // A repeat opens nothing while its transfer is open; the request of another client does.
     (
-        16,
+        ABC,
         &[
             (Request(1025, 1025, REQUEST), Opened(1025), DATA_1),
             (MayOpen(1025, REQUEST), Is(false), b""),
@@ -36,7 +39,7 @@ static SCENES: [(u8, Scene); 4] = [
     ),
     // A closed transfer has its slot until it is taken.
     (
-        1,
+        ONE_SLOT,
         &[
             (Request(1025, 1025, REQUEST), Opened(1025), DATA_1),
             (Datagram(1025, 1025, ACK_1), COMPLETE, b""),
@@ -51,7 +54,7 @@ static SCENES: [(u8, Scene); 4] = [
     ),
     // An open transfer is not taken.
     (
-        16,
+        ABC,
         &[
             (Request(1025, 1025, REQUEST), Opened(1025), DATA_1),
             (Take(1025), Nothing, b""),
@@ -60,7 +63,7 @@ static SCENES: [(u8, Scene); 4] = [
     ),
     // A datagram to the request port, and whether it could open a transfer.
     (
-        16,
+        ABC,
         &[
             (MayOpen(1040, b"\x00\x01a\x00octet\x00"), Is(true), b""),
             (MayOpen(1040, b"\x00\x01b\x00octet\x00"), Is(true), b""),
@@ -80,14 +83,11 @@ static SCENES: [(u8, Scene); 4] = [
 
 #[test]
 fn scenes_at_the_request_port(rt: HostRuntime) {
-    for &(cap, scene) in &SCENES {
-        let mut server = server_of(&rt, rt.alloc(), cap, false, &ABC);
-        play(&rt, rt.alloc(), &mut server, scene);
-    }
+    play_each(&rt, rt.alloc(), &SCENES);
 }
 
 /// Three transfers open, not in the order of their identifiers.
-static OPENED: Scene = &[
+static OPENED: Events = &[
     (Request(1030, 1030, REQUEST), Opened(1030), DATA_1),
     (Request(1025, 1025, REQUEST), Opened(1025), DATA_1),
     (Request(1027, 1027, REQUEST), Opened(1027), DATA_1),
@@ -95,7 +95,7 @@ static OPENED: Scene = &[
 
 /// The second is closed and taken, and another opens. A request under an identifier that a transfer
 /// has is refused, as a repeat is.
-static REOPENED: Scene = &[
+static REOPENED: Events = &[
     (Take(1025), COMPLETE, b""),
     (Request(1040, 1040, REQUEST), Opened(1040), DATA_1),
     (Request(2000, 1027, REQUEST), IN_USE, b""),
@@ -105,7 +105,7 @@ static REOPENED: Scene = &[
 const IN_USE: Found = Fault(ServerFault::TidInUse);
 
 /// The identifiers of the server's open transfers. Each is with its client.
-fn open_tids(rt: &impl Abort, alloc: Global, server: &Server<TestStore>) -> Vec<u16> {
+fn open_tids<S: Store>(rt: &impl Abort, alloc: Global, server: &Server<S>) -> Vec<u16> {
     let mut open = Vec::new(alloc);
     for (tid, record) in server.open_transfers() {
         expect_equal(rt, &record.peer, &Some(client(tid)), "its client");
@@ -114,37 +114,44 @@ fn open_tids(rt: &impl Abort, alloc: Global, server: &Server<TestStore>) -> Vec<
     open
 }
 
-/// A transfer lends the datagram that it sends, and completes without a buffer. Only open transfers
-/// are listed.
-#[test]
-fn calls_on_three_transfers(rt: HostRuntime) {
-    let mut server = server_of(&rt, rt.alloc(), 16, false, &ABC);
-    play(&rt, rt.alloc(), &mut server, OPENED);
-    let (step, lent) = server.handle_timeout(1025).expect(&rt, "a timeout");
-    expect_equal(&rt, &step.to, &Some(client(1025)), "to its client");
+/// A timeout of the transfer lends its block again, and another transfer lends none.
+fn lends_its_block<S: Store>(rt: &impl Abort, server: &mut Server<S>) {
+    let (step, lent) = server.handle_timeout(1025).expect(rt, "a timeout");
+    expect_equal(rt, &step.to, &Some(client(1025)), "to its client");
     let block = server.bytes_of(1025, lent);
-    expect_equal(&rt, &block, &Some(DATA_1), "the block that was sent");
+    expect_equal(rt, &block, &Some(DATA_1), "the block that was sent");
     expect(
-        &rt,
+        rt,
         server.bytes_of(1040, lent).is_none(),
         "no such transfer",
     );
+}
+
+/// The transfer completes without a buffer.
+fn completes<S: Store>(rt: &impl Abort, server: &mut Server<S>) {
     let answer = server.handle_datagram(1025, client(1025), ACK_1);
-    let (step, lent) = answer.expect(&rt, "an acknowledgement");
+    let (step, lent) = answer.expect(rt, "an acknowledgement");
     let complete = (Some(Outcome::Complete), Outgoing::Nothing);
-    expect_equal(&rt, &(step.closed, lent), &complete, "the end, in silence");
+    expect_equal(rt, &(step.closed, lent), &complete, "the end, in silence");
+}
+
+#[test]
+fn calls_on_three_transfers(rt: HostRuntime) {
+    let mut server = server_of(&rt, rt.alloc(), &ABC);
+    play(&rt, rt.alloc(), &mut server, OPENED);
+    lends_its_block(&rt, &mut server);
+    completes(&rt, &mut server);
     let open = open_tids(&rt, rt.alloc(), &server);
-    expect_equal(
-        &rt,
-        &open.as_slice(),
-        &[1027, 1030].as_slice(),
-        "those that are open",
-    );
+    expect_tids(&rt, &open, &[1027, 1030]);
     play(&rt, rt.alloc(), &mut server, REOPENED);
     let mut tids = Vec::new(rt.alloc());
     server.tids(&mut tids).expect(&rt, "memory");
-    let all = [1027, 1030, 1040];
-    expect_equal(&rt, &tids.as_slice(), &all.as_slice(), "in rising order");
+    expect_tids(&rt, &tids, &[1027, 1030, 1040]);
+}
+
+/// The identifiers are these, in rising order.
+fn expect_tids(rt: &impl Abort, tids: &[u16], expected: &[u16]) {
+    expect_equal(rt, &tids, &expected, "the identifiers");
 }
 
 /// A request, and the block size of the transfer that it may open: 512 bytes without the option
@@ -158,12 +165,17 @@ const BLOCK_SIZES: [(&[u8], Option<u16>); 6] = [
     (b"\x00\x04\x00\x00", None),
 ];
 
+/// The block size of the transfer that a datagram may open.
+fn block_size<S: Store>(rt: &impl Abort, server: &Server<S>, bytes: &[u8]) -> Option<u16> {
+    let admission = server.admit(client(1040), bytes).expect(rt, "memory");
+    server.block_size(&admission)
+}
+
 #[test]
 fn block_sizes_of_admissions(rt: HostRuntime) {
-    let server = server_of(&rt, rt.alloc(), 16, false, &ABC);
+    let server = server_of(&rt, rt.alloc(), &ABC);
     for &(bytes, expected) in &BLOCK_SIZES {
-        let admission = server.admit(client(1040), bytes).expect(&rt, "memory");
-        let size = server.block_size(&admission);
+        let size = block_size(&rt, &server, bytes);
         expect_equal(&rt, &(bytes, size), &(bytes, expected), "the block size");
     }
 }

@@ -184,18 +184,23 @@ fn count(counts: &mut Counts, port: u16, end: &Record) {
     }
 }
 
+/// An event is drawn and played, and then all ends are safe.
+fn steps_safely(rt: &impl Abort, files: &Files, path: &Path, world: &mut World, rng: &mut Pcg32) {
+    let event = draw(rng, world).expect(rt, "an event");
+    world.apply(event).expect(rt, "what is drawn can happen");
+    for (port, end) in world.records() {
+        let danger = danger(files, world, path, *port, end);
+        expect_equal(rt, &(*port, danger), &(*port, None), "an end is safe");
+    }
+}
+
 /// A run of one seed, whose ends are counted at its end.
 fn runs_safely(rt: &impl Abort, alloc: Global, files: &Files, seed: u64, counts: &mut Counts) {
     let mut world = asked_world(rt, alloc, files);
     let mut rng = Pcg32::seed_from_u64(seed);
     let path = path(rt, alloc, b"n");
     for _ in 0..EVENTS {
-        let event = draw(&mut rng, &world).expect(rt, "an event");
-        world.apply(event).expect(rt, "what is drawn can happen");
-        for (port, end) in world.records() {
-            let danger = danger(files, &world, &path, *port, end);
-            expect_equal(rt, &(*port, danger), &(*port, None), "an end is safe");
-        }
+        steps_safely(rt, files, &path, &mut world, &mut rng);
     }
     for (port, end) in world.records() {
         count(counts, *port, end);

@@ -1,7 +1,7 @@
 //! Reads in a world: what comes, byte by byte (RFC 1350, sections 2 and 6). Which datagrams go where
 //! is shown by `tftp-play`, over the rows of tools/rows.
 
-use crate::expect::expect_equal;
+use crate::expect::{expect, expect_equal};
 use crate::stores::{counted_bytes, path};
 use std::alloc::Global;
 use std::process::Abort;
@@ -13,6 +13,8 @@ use tftp_wire::{Bytes, Mode};
 /// A read of the server's file `a` by the client at the port 1024.
 #[derive(Clone, Copy)]
 struct Read<'a> {
+    /// What it shows.
+    what: &'a str,
     /// The server's file.
     file: &'a [u8],
     /// The name in the request.
@@ -35,8 +37,8 @@ struct Read<'a> {
 const BLOCK: &[u8] = &[b'x'; 512];
 
 static READS: [Read; 4] = [
-    // An empty file takes three datagrams: RRQ, DATA 1, ACK 1.
     Read {
+        what: "an empty file takes three datagrams: RRQ, DATA 1, ACK 1",
         file: b"",
         name: b"a",
         blksize: None,
@@ -50,8 +52,8 @@ static READS: [Read; 4] = [
         stored: Some(b""),
         is_committed: true,
     },
-    // The file is requested by a name with a slash, and its block is followed by an empty one.
     Read {
+        what: "a name has a slash, and a full block is followed by an empty one",
         file: BLOCK,
         name: b"/a",
         blksize: None,
@@ -61,8 +63,8 @@ static READS: [Read; 4] = [
         stored: Some(BLOCK),
         is_committed: true,
     },
-    // The receiver's store refuses the block.
     Read {
+        what: "the receiver's store refuses the block",
         file: b"ABC",
         name: b"a",
         blksize: None,
@@ -72,8 +74,8 @@ static READS: [Read; 4] = [
         stored: Some(b""),
         is_committed: false,
     },
-    // A name has a byte at least. A request that is not sent takes no port.
     Read {
+        what: "a name has a byte at least; a request that is not sent takes no port",
         file: b"ABC",
         name: b"",
         blksize: None,
@@ -99,48 +101,45 @@ fn world_of(rt: &impl Abort, alloc: Global, read: &Read<'_>) -> World {
             tsize: None,
         },
     });
-    expect_equal(rt, &report.err(), &read.fault, "the request");
+    expect_equal(rt, &report.err(), &read.fault, read.what);
     world
 }
 
-/// All that is sent is delivered, and then the client has stored the file and committed it, or not.
-/// The server, which stored nothing, has it still.
-fn plays(rt: &impl Abort, alloc: Global, read: &Read<'_>) {
-    let mut world = world_of(rt, alloc, read);
-    let armed = world.apply(Event::RefuseStore(if read.is_armed { 1024 } else { 9 }));
-    expect_equal(
-        rt,
-        &armed.is_ok(),
-        &read.is_armed,
-        "a store is set to refuse",
-    );
+/// All that is sent is delivered.
+fn settles(rt: &impl Abort, world: &mut World, is_armed: bool) {
+    let armed = world.apply(Event::RefuseStore(if is_armed { 1024 } else { 0 }));
+    expect(rt, armed.is_ok() == is_armed, "a store is set to refuse");
     world.settle(0, 1_000_000).expect(rt, "all that is sent");
-    for &(index, bytes) in read.sent {
-        let sent = world.sent().get(index).expect(rt, "a datagram");
-        let found = (index, sent.bytes.as_slice());
-        expect_equal(rt, &found, &(index, bytes), "a datagram");
-    }
-    let ends = if read.fault.is_none() { 2 } else { 0 };
-    let found = (
-        read.name,
-        world.stored(1024),
-        world.committed(1024),
-        world.stored(1025),
-        world.file(&path(rt, alloc, b"a")),
-        world.records().len(),
-    );
-    let expected = (
-        read.name,
-        read.stored,
-        read.is_committed,
-        None,
-        Some(read.file),
-        ends,
-    );
-    expect_equal(rt, &found, &expected, "what came");
 }
 
-/// 65,534 blocks of 8 bytes and a last one of 7 are as many as have numbers.
+/// The datagrams were sent. The client has stored the file and committed it, or not. The server,
+/// which stored nothing, has it still.
+fn has_come(rt: &impl Abort, alloc: Global, world: &World, read: &Read<'_>) {
+    for &(index, bytes) in read.sent {
+        let sent = world.sent().get(index).expect(rt, read.what);
+        expect_equal(
+            rt,
+            &(index, sent.bytes.as_slice()),
+            &(index, bytes),
+            read.what,
+        );
+    }
+    expect_equal(rt, &world.stored(1024), &read.stored, read.what);
+    expect_equal(rt, &world.committed(1024), &read.is_committed, read.what);
+    expect(rt, world.stored(1025).is_none(), "a sender stores nothing");
+    let path = path(rt, alloc, b"a");
+    expect_equal(rt, &world.file(&path), &Some(read.file), read.what);
+    let ends = if read.fault.is_none() { 2 } else { 0 };
+    expect_equal(rt, &world.records().len(), &ends, read.what);
+}
+
+/// What comes is as expected.
+fn plays(rt: &impl Abort, alloc: Global, read: &Read<'_>) {
+    let mut world = world_of(rt, alloc, read);
+    settles(rt, &mut world, read.is_armed);
+    has_come(rt, alloc, &world, read);
+}
+
 #[test]
 fn what_is_read_comes_whole(rt: HostRuntime) {
     for read in &READS {
@@ -148,6 +147,7 @@ fn what_is_read_comes_whole(rt: HostRuntime) {
     }
     let file = counted_bytes(&rt, rt.alloc(), 0, 524_279);
     let read = Read {
+        what: "65,534 blocks of 8 bytes and a last one of 7 are as many as have numbers",
         file: &file,
         name: b"a",
         blksize: Some(8),

@@ -52,33 +52,35 @@ pub(crate) enum Found {
 }
 
 /// The events of a scene in turn, and after each what is found and which bytes.
-pub(crate) type Scene<'a> = &'a [(Event<'a>, Found, &'a [u8])];
+pub(crate) type Events<'a> = &'a [(Event<'a>, Found, &'a [u8])];
 
-/// A server over the store, with this limit of transfers, that replaces files or not.
-pub(crate) fn server_of(
-    rt: &impl Abort,
-    alloc: Global,
-    cap: u8,
-    overwrite: bool,
-    setup: &Setup,
-) -> Server<TestStore> {
+/// Plays the events of each scene at a server of its own.
+pub(crate) fn play_each(rt: &impl Abort, alloc: Global, scenes: &[(Setup, Events<'_>)]) {
+    for (setup, events) in scenes {
+        let mut server = server_of(rt, alloc, setup);
+        play(rt, alloc, &mut server, *events);
+    }
+}
+
+/// A server over the store.
+pub(crate) fn server_of(rt: &impl Abort, alloc: Global, setup: &Setup) -> Server<TestStore> {
     let mut config = Config::default();
-    config.cap = cap;
-    config.overwrite = overwrite;
+    config.cap = setup.cap;
+    config.overwrite = setup.overwrite;
     expect(rt, config.is_valid(), "the settings of a server");
     let store = store_of(rt, alloc, setup);
     Server::new(alloc, config, store).expect(rt, "a server")
 }
 
-/// Plays a scene.
+/// The events happen in turn.
 pub(crate) fn play(
     rt: &impl Abort,
     alloc: Global,
     server: &mut Server<TestStore>,
-    scene: Scene<'_>,
+    events: Events<'_>,
 ) {
     let mut out = Vec::new(alloc);
-    for (row, &(event, expected, bytes)) in scene.iter().enumerate() {
+    for (row, &(event, expected, bytes)) in events.iter().enumerate() {
         out.clear();
         let found = after(rt, alloc, server, event, &mut out);
         let found = (row, found, out.as_slice());

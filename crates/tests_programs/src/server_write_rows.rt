@@ -4,7 +4,7 @@
 use crate::expect::expect_equal;
 use crate::served::Event::{Datagram, Draft, File, Request, Take, Timeout};
 use crate::served::Found::{Closed, Is, Nothing, Opened};
-use crate::served::{Scene, play, server_of};
+use crate::served::{Events, play, play_each, server_of};
 use crate::stores::{ABC, Setup, TestStore};
 use std::alloc::Global;
 use std::process::Abort;
@@ -28,6 +28,12 @@ const DISK_FULL: &[u8] = b"\x00\x05\x00\x03disk full\x00";
 
 const VIOLATION: &[u8] = b"\x00\x05\x00\x02access violation\x00";
 
+/// A server that replaces files.
+const REPLACING: Setup = Setup {
+    overwrite: true,
+    ..ABC
+};
+
 /// A store that refuses its first call, `begin`.
 const CANNOT_BEGIN: Setup = Setup {
     refused_call: 0,
@@ -40,13 +46,34 @@ const CANNOT_BEGIN_FULL: Setup = Setup {
     ..ABC
 };
 
-/// Scenes of clients at the ports 2000 and 2001, and whether the server replaces files.
-static SCENES: [(bool, Setup, Scene); 5] = [
+/// A file of 600 letters, which may be replaced.
+const LETTERS: Setup = Setup {
+    file: &[b'a'; 600],
+    overwrite: true,
+    ..ABC
+};
+
+/// Its two blocks, of 512 and of 88 bytes.
+const LETTERS_1: &[u8] = b"\x00\x03\x00\x01\
+    aaaaaaaaaaaaaaaaaaaaaaaaaaaaaaaaaaaaaaaaaaaaaaaaaaaaaaaaaaaaaaaa\
+    aaaaaaaaaaaaaaaaaaaaaaaaaaaaaaaaaaaaaaaaaaaaaaaaaaaaaaaaaaaaaaaa\
+    aaaaaaaaaaaaaaaaaaaaaaaaaaaaaaaaaaaaaaaaaaaaaaaaaaaaaaaaaaaaaaaa\
+    aaaaaaaaaaaaaaaaaaaaaaaaaaaaaaaaaaaaaaaaaaaaaaaaaaaaaaaaaaaaaaaa\
+    aaaaaaaaaaaaaaaaaaaaaaaaaaaaaaaaaaaaaaaaaaaaaaaaaaaaaaaaaaaaaaaa\
+    aaaaaaaaaaaaaaaaaaaaaaaaaaaaaaaaaaaaaaaaaaaaaaaaaaaaaaaaaaaaaaaa\
+    aaaaaaaaaaaaaaaaaaaaaaaaaaaaaaaaaaaaaaaaaaaaaaaaaaaaaaaaaaaaaaaa\
+    aaaaaaaaaaaaaaaaaaaaaaaaaaaaaaaaaaaaaaaaaaaaaaaaaaaaaaaaaaaaaaaa";
+
+const LETTERS_2: &[u8] = b"\x00\x03\x00\x02\
+    aaaaaaaaaaaaaaaaaaaaaaaaaaaaaaaaaaaaaaaaaaaa\
+    aaaaaaaaaaaaaaaaaaaaaaaaaaaaaaaaaaaaaaaaaaaa";
+
+/// Scenes of clients at the ports 2000 and 2001.
+static SCENES: [(Setup, Events); 6] = [
     // The file exists once it is committed, and only then the last block is acknowledged. The
     // receiver dallies. Its second timeout closes the transfer (RFC 1350, section 6), which is
     // returned with its draft.
     (
-        false,
         ABC,
         &[
             (Request(2000, 1025, WRITE), Opened(1025), ACK_0),
@@ -62,8 +89,7 @@ static SCENES: [(bool, Setup, Scene); 5] = [
     ),
     // Two clients write a file of one name. The last commit counts where files may be replaced,
     (
-        true,
-        ABC,
+        REPLACING,
         &[
             (Request(2000, 1025, WRITE), Opened(1025), ACK_0),
             (Request(2001, 1027, WRITE), Opened(1027), ACK_0),
@@ -74,7 +100,6 @@ static SCENES: [(bool, Setup, Scene); 5] = [
     ),
     // and else the first.
     (
-        false,
         ABC,
         &[
             (Request(2000, 1025, WRITE), Opened(1025), ACK_0),
@@ -90,23 +115,37 @@ static SCENES: [(bool, Setup, Scene); 5] = [
     ),
     // A draft that cannot be begun opens no transfer.
     (
-        false,
         CANNOT_BEGIN_FULL,
         &[(Request(2000, 1025, WRITE), Nothing, DISK_FULL)],
     ),
     (
-        false,
         CANNOT_BEGIN,
         &[(Request(2000, 1025, WRITE), Nothing, VIOLATION)],
+    ),
+    // A read of a file that a write replaces continues with the file that it opened.
+    (
+        LETTERS,
+        &[
+            (
+                Request(2000, 1025, b"\x00\x01a\x00octet\x00"),
+                Opened(1025),
+                LETTERS_1,
+            ),
+            (
+                Request(2001, 1026, b"\x00\x02a\x00octet\x00"),
+                Opened(1026),
+                ACK_0,
+            ),
+            (Datagram(2001, 1026, DATA_B), Nothing, ACK_1),
+            (File(b"a"), Is(true), b"B"),
+            (Datagram(2000, 1025, ACK_1), Nothing, LETTERS_2),
+        ],
     ),
 ];
 
 #[test]
 fn scenes_of_writes(rt: HostRuntime) {
-    for &(overwrite, setup, scene) in &SCENES {
-        let mut server = server_of(&rt, rt.alloc(), 16, overwrite, &setup);
-        play(&rt, rt.alloc(), &mut server, scene);
-    }
+    play_each(&rt, rt.alloc(), &SCENES);
 }
 
 /// DATA of this number and length in bytes, whose block is of this byte.
@@ -116,35 +155,7 @@ fn data(rt: &impl Abort, alloc: Global, number: u8, byte: u8, length: usize) -> 
     bytes
 }
 
-/// A file of 600 letters.
-const LETTERS: Setup = Setup {
-    file: &[b'a'; 600],
-    ..ABC
-};
-
-/// A read of a file that a write replaces continues with the file that it opened.
-#[test]
-fn a_write_replaces_what_is_read(rt: HostRuntime) {
-    let mut server = server_of(&rt, rt.alloc(), 16, true, &LETTERS);
-    let first = data(&rt, rt.alloc(), 1, b'a', 516);
-    let rest = data(&rt, rt.alloc(), 2, b'a', 92);
-    let scene = [
-        (
-            Request(2000, 1025, b"\x00\x01a\x00octet\x00"),
-            Opened(1025),
-            first.as_slice(),
-        ),
-        (
-            Request(2001, 1026, b"\x00\x02a\x00octet\x00"),
-            Opened(1026),
-            ACK_0,
-        ),
-        (Datagram(2001, 1026, DATA_B), Nothing, ACK_1),
-        (File(b"a"), Is(true), b"B"),
-        (Datagram(2000, 1025, ACK_1), Nothing, rest.as_slice()),
-    ];
-    play(&rt, rt.alloc(), &mut server, &scene);
-}
+static OPENING: Events = &[(Request(2000, 1025, WRITE), Opened(1025), ACK_0)];
 
 /// In a write of five blocks the store refuses the call of this number: the first is `begin`, then
 /// an append for each block, and the commit. Four blocks have 512 bytes and the last has three, and
@@ -161,9 +172,8 @@ fn fails_there(
         fault,
         ..ABC
     };
-    let mut server = server_of(rt, alloc, 16, false, &setup);
-    let opening = (Request(2000, 1025, WRITE), Opened(1025), ACK_0);
-    play(rt, alloc, &mut server, &[opening]);
+    let mut server = server_of(rt, alloc, &setup);
+    play(rt, alloc, &mut server, OPENING);
     for number in 1..=5 {
         let bytes = data(rt, alloc, number, number, if number < 5 { 516 } else { 7 });
         let block = Datagram(2000, 1025, &bytes);
@@ -195,6 +205,12 @@ fn fault_each(rt: HostRuntime) {
     }
 }
 
+/// There is no file yet, and the block is stored.
+static KEPT: Events = &[
+    (File(b"n"), Is(false), b""),
+    (Draft(1025), Is(false), &[1; 512]),
+];
+
 /// A refused append leaves no file, and the block before it; the write is not complete.
 #[test]
 fn a_refused_append_keeps_what_was_stored(rt: HostRuntime) {
@@ -202,9 +218,5 @@ fn a_refused_append_keeps_what_was_stored(rt: HostRuntime) {
     let record = server.record(1025).expect(&rt, "a transfer");
     let found = (record.number, record.complete);
     expect_equal(&rt, &found, &(1, false), "one block is stored, of more");
-    let kept = [
-        (File(b"n"), Is(false), b"".as_slice()),
-        (Draft(1025), Is(false), &[1; 512]),
-    ];
-    play(&rt, rt.alloc(), &mut server, &kept);
+    play(&rt, rt.alloc(), &mut server, KEPT);
 }

@@ -64,6 +64,22 @@ fn a_file_has_its_length_on_the_wire(rt: HostRuntime) {
     );
 }
 
+/// The server holds no transfer.
+fn holds_none<S: Store + Drop>(rt: &impl Abort, alloc: Global, server: &mut Server<S>) {
+    let mut tids = Vec::new(alloc);
+    let appended = server.tids(&mut tids);
+    expect_equal(rt, &(appended, tids.len()), &(Ok(()), 0), "no identifier");
+    expect(rt, server.record(1025).is_none(), "no record");
+    expect(rt, server.take_closed(1025).is_none(), "nothing to take");
+}
+
+/// A timeout finds no transfer.
+fn has_no_timeout<S: Store>(rt: &impl Abort, alloc: Global, server: &mut Server<S>) {
+    let mut out = Vec::new(alloc);
+    let timeout = server.on_timeout(1025, &mut out);
+    expect_equal(rt, &timeout, &Err(ServerFault::NoSuchTid), "a timeout");
+}
+
 /// A server without transfers, which lends its store.
 #[test]
 fn a_new_server_holds_no_transfer(rt: HostRuntime) {
@@ -71,14 +87,8 @@ fn a_new_server_holds_no_transfer(rt: HostRuntime) {
     expect(&rt, config.is_valid(), "the default");
     let server = Server::new(rt.alloc(), config, empty(&rt, rt.alloc()));
     let mut server = server.expect(&rt, "a server");
-    let mut tids = Vec::new(rt.alloc());
-    let appended = server.tids(&mut tids);
-    expect_equal(&rt, &(appended, tids.len()), &(Ok(()), 0), "no identifier");
-    expect(&rt, server.record(1025).is_none(), "no record");
-    expect(&rt, server.take_closed(1025).is_none(), "nothing to take");
-    let mut out = Vec::new(rt.alloc());
-    let timeout = server.on_timeout(1025, &mut out);
-    expect_equal(&rt, &timeout, &Err(ServerFault::NoSuchTid), "a timeout");
+    holds_none(&rt, rt.alloc(), &mut server);
+    has_no_timeout(&rt, rt.alloc(), &mut server);
     server.store_mut().refuse_next(true);
     expect(&rt, server.store().refuses(), "what it was told");
 }

@@ -1,6 +1,6 @@
 //! Stores and paths of the tests.
 
-use crate::expect::expect_equal;
+use crate::expect::{expect, expect_equal};
 use std::alloc::Global;
 use std::process::Abort;
 use tftp_file::{Path, StoreFault, path_of};
@@ -9,7 +9,7 @@ use tftp_server::{FaultStore, MemStore, Store};
 /// A store in memory, of which calls may fail.
 pub(crate) type TestStore = FaultStore<MemStore>;
 
-/// What a store holds, and which of its calls fail.
+/// What a store holds, which of its calls fail, and the limits of a server over it.
 #[derive(Clone, Copy)]
 pub(crate) struct Setup {
     /// The bytes of its one file, `a`.
@@ -24,6 +24,10 @@ pub(crate) struct Setup {
     pub(crate) refuses_open: bool,
     /// Whether every `fill` of what it opens fails.
     pub(crate) fails_fill: bool,
+    /// The server's limit of transfers.
+    pub(crate) cap: u8,
+    /// Whether the server replaces files.
+    pub(crate) overwrite: bool,
 }
 
 /// A store of the three bytes `ABC`, of which no call fails.
@@ -34,6 +38,8 @@ pub(crate) const ABC: Setup = Setup {
     fault: StoreFault::Io,
     refuses_open: false,
     fails_fill: false,
+    cap: 16,
+    overwrite: false,
 };
 
 /// The path that a name spells.
@@ -83,28 +89,18 @@ pub(crate) type Writes = &'static [(
 pub(crate) fn writes(rt: &impl Abort, alloc: Global, setup: &Setup, name: &[u8], rows: Writes) {
     let path = path(rt, alloc, name);
     let mut store = store_of(rt, alloc, setup);
-    expect_equal(
-        rt,
-        &store.get_ref().refuses(),
-        &setup.is_armed,
-        "whether it is armed",
-    );
+    expect(rt, store.get_ref().refuses() == setup.is_armed, "armed");
     for (row, &(bytes, old_file, expected, file)) in rows.iter().enumerate() {
-        let found = write(&mut store, alloc, &path, bytes, old_file);
-        let found = (row, found, store.get_ref().file(&path));
-        expect_equal(
-            rt,
-            &found,
-            &(row, expected, file),
-            "the write, and the file",
-        );
+        let result = write(&mut store, alloc, &path, bytes, old_file);
+        expect_equal(rt, &(row, result), &(row, expected), "the write");
+        has_file(rt, &store, &path, file);
     }
-    expect_equal(
-        rt,
-        &store.get_ref().refuses(),
-        &false,
-        "whether it is armed",
-    );
+    expect(rt, !store.get_ref().refuses(), "disarmed");
+}
+
+/// The store has this file of this path, or none.
+pub(crate) fn has_file(rt: &impl Abort, store: &TestStore, path: &Path, file: Option<&[u8]>) {
+    expect_equal(rt, &store.get_ref().file(path), &file, "the file");
 }
 
 /// Writes a file by `begin`, `append` and `commit`.
