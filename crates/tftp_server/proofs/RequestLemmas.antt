@@ -1,4 +1,4 @@
--- What the request port decides, from the calls that it makes. For four functions.
+-- What the request port decides, from the calls that it makes. For eight functions.
 use Rattle.std.proofs.lemmas.Grind.{common_steps}
 use Rattle.std.proofs.Common.{◌≡◌, ◌≢◌, ℕ, Bool, false, List, [], ◌++◌, Option, Some, None, Result, Ok, Err, IfOk, IsErrOf}
 use Rattle.std.proofs.Common.{OnOk, OnErr, ◌+◌, ◌≤◌, append-nil, length, take, refl, ap, arith, rules}

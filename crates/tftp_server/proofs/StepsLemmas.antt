@@ -2,7 +2,7 @@
 -- ShortageLemmas.
 use Rattle.std.proofs.Common.{◌≡◌, ◌↔◌, ℕ, Bool, true, false, List, Option, Some, Result, Ok, Err, refl, sym, ap, ◌∙◌}
 use Rattle.std.proofs.Common.{rules}
-use Rattle.std.specs.Prelude.{IsErrOf, IsSome, is_some}
+use Rattle.std.specs.Prelude.{IsErrOf}
 use Rattle.std.proofs.lemmas.Map.Steps.{set_value_same}
 use Rattle.std.proofs.lemmas.Result.{err_from_is_err_and}
 use Rattle.std.specs.Result.{IsErrAnd}
@@ -12,7 +12,6 @@ use Rattle.tftp_file.specs.Source.{SourceMeaning}
 use Rattle.tftp_file.specs.Sink.{sink_through}
 use Rattle.tftp_file.specs.declared.files.Files.TheVariants.{Source, Sink}
 use Rattle.tftp_ends.specs.declared.endpoint.Endpoint.{Endpoint}
-use Rattle.tftp_ends.specs.declared.outcome.Outcome.{Outcome}
 use Rattle.tftp_ends.specs.declared.fault.EndFault.{EndFault}
 use Rattle.tftp_ends.specs.declared.fault.EndFault.TheVariants as ends
 use Rattle.tftp_ends.specs.declared.record.Step.{Step}
@@ -104,12 +103,6 @@ handled_alike {F = F} {D = D} kind from bytes is h = search rules
 -- what the exit of a `?` returns
 pub returned : {T E : Type 0} (r : Result T E) (fault : E) → IsErrAnd r (λ e. e ≡ fault) → r ≡ Err fault
 returned r fault h = let p = err_from_is_err_and r h in p.1 ∙ ap Err p.2
-
--- a fault is `Closed` exactly where another call with it says that the end is
-pub closed_alike : {A B : Type 0} (fault : EndFault) (outcome : Option Outcome) →
-    (IsErrOf {T = A} (Err fault) ends.Closed ↔ IsSome outcome) →
-    (IsErrOf {T = B} (Err fault) ends.Closed ↔ (is_some outcome ≡ true))
-closed_alike fault outcome h = search rules
 
 -- what follows from the fault of the end follows from that of the server
 pub when_closed : {R Q P : Type 0} (fault : EndFault) → (IsErrOf {T = R} (Err fault) ends.Closed → P) →

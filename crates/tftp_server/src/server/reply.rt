@@ -71,8 +71,8 @@ pub(crate) fn begin_refused(fault: StoreFault) -> Unopened
     }
 }
 
-/// Appends the ERROR, to be sent from the request port. `Memory` is its one fault, which capacity
-/// for an ERROR leaves to a transfer that was out of memory.
+/// Appends the ERROR, to be sent from the request port. `Memory` is its one fault: the transfer was
+/// out of memory, or `out` has no capacity for the ERROR.
 pub(crate) fn refuse(
     unopened: Unopened,
     from: Endpoint,

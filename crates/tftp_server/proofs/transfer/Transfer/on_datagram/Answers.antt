@@ -4,7 +4,7 @@ use Rattle.tftp_ends.specs.Action.{HandledBy}
 use Rattle.tftp_ends.specs.End.{EndState}
 use Rattle.tftp_ends.specs.Step.{IsAnswered}
 use Rattle.tftp_ends.proofs.Appending.{file_is_answered, passed}
-use Rattle.tftp_server.proofs.StepsLemmas.{closed_alike, returned}
+use Rattle.tftp_server.proofs.StepsLemmas.{returned}
 use Rattle.tftp_server.proofs.transfer.Transfer.on_datagram.Goals as goal
 
 pub returns-clause-takes : goal.returns-clause-takes
@@ -29,13 +29,3 @@ returns-in_err-step-clause-memory g c =
 
 pub returns-in_err-step-clause-why : goal.returns-in_err-step-clause-why
 returns-in_err-step-clause-why g c = search rules
-
-pub returns-in_err-reserve_answer-clause-closed : goal.returns-in_err-reserve_answer-clause-closed
-returns-in_err-reserve_answer-clause-closed g c =
-    rw (returned _ _ c.from_residual.ensures.1, ← c.end.ensures)
-    (closed_alike _ _ c.in_err-reserve_answer.ensures.closed)
-
-pub returns-in_err-step-clause-err : goal.returns-in_err-step-clause-err
-returns-in_err-step-clause-err g c =
-    rw (returned _ _ c.from_residual-in_err-step.ensures.1)
-    (c.in_err-step.ensures.err, c.in_ok-reserve_answer.ensures.items)
