@@ -116,8 +116,9 @@ fn record_at(world: &World, port: u16) -> Option<&Record> {
 /// How the end at this port is unsafe, if it is. `path` is that of the file that clients write.
 ///
 /// Two ends that have each other as peer have one block size; a sender is complete only with a
-/// complete receiver. What a receiver stored is a prefix of its peer's file, and once it is complete
-/// all of it, committed, and at the server under its path. An end without a peer receives nothing.
+/// complete receiver. What a receiver stored is a prefix of its peer's file, and once it is
+/// complete all of it, committed, and at the server under its path. An end without a peer receives
+/// nothing.
 fn danger(
     files: &Files,
     world: &World,
