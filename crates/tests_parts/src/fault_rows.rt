@@ -4,8 +4,8 @@ use crate::calls::{Fill, fills};
 use tftp_file::{FaultSource, FileFault};
 use tftp_wire::Mode;
 
-/// A file and its mode, how many bytes of its wire text are given and whether the source then fails,
-/// and fills.
+/// A file and its mode, how many bytes of its wire text are given and whether the source then
+/// fails, and fills.
 type Shortened = (&'static [u8], Mode, u64, bool, &'static [Fill]);
 
 static SHORTENED: [Shortened; 6] = [

@@ -1,7 +1,8 @@
 //! The tests of packets, options, the file layer and one end of a transfer, over their public calls.
 //!
-//! A helper drops a packet, a path or a source by a call of `drop`: at the end of a scope the proof
-//! of the helper would contain the drop of each part.
+//! A table is a `static`, since a function that names a constant with references has all of it in
+//! its proof. A helper drops a packet, a path or a source by a call of `drop`: at the end of a scope
+//! the proof of the helper would contain the drop of each part.
 #![tactic(auto)]
 
 #[cfg(test)]

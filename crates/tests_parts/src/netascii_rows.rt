@@ -60,8 +60,8 @@ fn is_stored_as(rt: &impl Abort, alloc: Global, (front, rest): (&[u8], &[u8]), h
     expect_equal(rt, &found, &(front, host, Ok(())), "decoded, to its end");
 }
 
-/// The text is encoded so, and decoded at every cut of its wire text. Its length on the wire is that
-/// of the wire text in netascii.
+/// The text is encoded so, and decoded at every cut of its wire text. Its length on the wire is
+/// that of the wire text in netascii, and its own in octet.
 fn goes_both_ways(rt: &impl Abort, alloc: Global, host: &[u8], wire: &[u8]) {
     is_sent_as(rt, alloc, host, wire);
     for at in 0..wire.len() + 1 {

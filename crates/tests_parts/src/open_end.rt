@@ -148,17 +148,17 @@ pub(crate) const STORE_FAULT: Then = Ok((false, Some(Outcome::StoreFault)));
 /// The end is closed, and refuses the event.
 pub(crate) const REFUSED: Then = Err(EndFault::Closed);
 
-/// What happens at an end. The end answers a datagram by the second bytes
-/// of its row, or not at all if they are empty.
+/// What happens at an end. The end answers a datagram by the second bytes of its row, or not at all
+/// if they are empty.
 #[derive(Clone, Copy)]
 pub(crate) enum Event {
     /// This datagram arrives from this endpoint, and is answered so.
     Arrives(Endpoint, &'static [u8], &'static [u8], Then),
     /// After a timeout the end sends these bytes to this endpoint.
     TimesOut(&'static [u8], Endpoint, Then),
-    /// The same, and the end lends the answer.
+    /// This datagram arrives from this endpoint, and the end lends the answer.
     Lends(Endpoint, &'static [u8], &'static [u8], Then),
-    /// After a timeout the end lends these bytes, to be sent to this endpoint.
+    /// After a timeout the end lends these bytes, for this endpoint.
     LendsAfterTimeout(&'static [u8], Endpoint, Then),
     /// The end is then so.
     Shows(Fact),

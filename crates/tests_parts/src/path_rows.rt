@@ -5,8 +5,8 @@ use std::alloc::Global;
 use std::process::Abort;
 use tftp_file::{PathFault, path_of};
 
-/// Names, and the path that each stands for, or its first fault. A segment has at most 64 letters, a
-/// path at most 8 segments and 255 bytes. The length is tested before the depth, the depth before
+/// Names, and the path that each stands for, or its first fault. A segment has at most 64 letters,
+/// a path at most 8 segments and 255 bytes. The length is tested before the depth, the depth before
 /// the segments.
 static NAMES: [(&[u8], Result<&[u8], PathFault>); 21] = [
     (b"a/b/c/d/e/f/g/h", Ok(b"a/b/c/d/e/f/g/h")),

@@ -82,8 +82,8 @@ fn line_ends_are_held_back(rt: HostRuntime) {
     expect(&rt, source.get_ref().is_empty(), "the reader is at its end");
 }
 
-/// A text that is read, how many bytes at a time and whether the reader then fails, the mode, fills,
-/// how many reads they take where that is known, and fills after them.
+/// A text that is read, how many bytes at a time and whether the reader then fails, the mode,
+/// fills, how many reads they take where that is known, and fills after them.
 type Reading = (
     &'static [u8],
     usize,
@@ -166,8 +166,8 @@ fn texts_are_read(rt: HostRuntime) {
 /// A call, its result, and whether the sink has then committed.
 type Call = (SinkCall, Result<(), StoreFault>, bool);
 
-/// A writer's room, whether it then fails, and whether its first flush does; the calls of a sink over
-/// it, and what is written at the end.
+/// A writer's room, whether it then fails, and whether its first flush does; the calls of a sink
+/// over it, and what is written at the end.
 type Writing = (usize, bool, bool, &'static [Call], &'static [u8]);
 
 static WRITINGS: [Writing; 4] = [

@@ -1,5 +1,5 @@
-//! Malformed datagrams at an end in each state. The bytes are written by hand from RFC 1350, sections
-//! 4 to 6 and appendix I, and RFC 2347.
+//! Malformed datagrams at an end in each state. The bytes are written by hand from RFC 1350,
+//! sections 4 to 6 and appendix I, and RFC 2347.
 
 use crate::open_end::Event::Arrives;
 use crate::open_end::{
