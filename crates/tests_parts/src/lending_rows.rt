@@ -3,13 +3,15 @@
 
 use crate::expect::expect_equal;
 use crate::open_end::Event::{Lends, LendsAfterTimeout, Shows};
-use crate::open_end::Fact::{Lent, Waits};
+use crate::open_end::Fact::{Lent, Reports, Waits};
 use crate::open_end::{
-    ACK_1, CONFIG, DATA_1, EIGHT, NOTHING, Opening, PROGRESS, REFUSED, RRQ_A, SERVER, STAYS, Scene,
-    play_each,
+    ACK_1, ASKED_TO_READ, CONFIG, DATA_1, EIGHT, NOTHING, Opening, PROGRESS, REFUSED, RRQ_A,
+    SERVER, STAYS, Scene, play_each,
 };
 use std::net::{Ipv4Addr, SocketAddrV4};
-use tftp_ends::{Backoff, End, EndConfig, Endpoint, ErrorReply, Outcome, Outgoing, decode_packet};
+use tftp_ends::{
+    Backoff, End, EndConfig, Endpoint, ErrorReply, Outcome, Outgoing, Record, decode_packet,
+};
 use tftp_negotiate::Limits;
 use tftp_wire::Mode;
 
@@ -71,6 +73,10 @@ static SCENES: [Scene; 4] = [
         events: &[
             LendsAfterTimeout(b"", SERVER, Ok((false, Some(Outcome::TimedOut)))),
             LendsAfterTimeout(b"", SERVER, REFUSED),
+            Shows(Reports(Record {
+                outcome: Some(Outcome::TimedOut),
+                ..ASKED_TO_READ
+            })),
         ],
     },
 ];

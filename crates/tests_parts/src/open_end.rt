@@ -464,7 +464,10 @@ impl OpenEnd {
                 expect_equal(rt, &found, &seconds, scene);
             }
             Fact::Keeps(held) => expect_equal(rt, &self.end.held(), &held, scene),
-            Fact::Reports(record) => expect_equal(rt, &self.end.record(), &record, scene),
+            Fact::Reports(record) => {
+                let found = (self.end.record(), self.end.outcome());
+                expect_equal(rt, &found, &(record, record.outcome), scene);
+            }
             Fact::Holds(bytes, is_committed) => self.holds(rt, bytes, is_committed, scene),
         }
     }
