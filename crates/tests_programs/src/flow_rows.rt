@@ -10,7 +10,7 @@ const ERROR: &[u8] = b"\
 0.004379553\t192.0.2.1\t35555\t192.0.2.2\t51458\t0005000146696c65206e6f7420666f756e6400\n";
 
 /// What is read, whether the reader fails then, and what the writer does.
-const RUNS: [(&[u8], bool, Takes); 2] = [(b"x\n", true, Takes::All), (ERROR, false, Takes::Full)];
+static RUNS: [(&[u8], bool, Takes); 2] = [(b"x\n", true, Takes::All), (ERROR, false, Takes::Full)];
 
 #[test]
 fn faulty_files(rt: HostRuntime) {

@@ -156,7 +156,7 @@ fn expect_tids(rt: &impl Abort, tids: &[u16], expected: &[u16]) {
 
 /// A request, and the block size of the transfer that it may open: 512 bytes without the option
 /// (RFC 1350, section 2), and no more than the limit of 1,428 with it (RFC 2348).
-const BLOCK_SIZES: [(&[u8], Option<u16>); 6] = [
+static BLOCK_SIZES: [(&[u8], Option<u16>); 6] = [
     (b"\x00\x01a\x00octet\x00", Some(512)),
     (b"\x00\x01a\x00octet\x00blksize\x001024\x00", Some(1_024)),
     (b"\x00\x01a\x00octet\x00blksize\x008192\x00", Some(1_428)),

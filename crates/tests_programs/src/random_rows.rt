@@ -73,7 +73,7 @@ fn world_of_two_files(rt: &impl Abort, alloc: Global, files: &Files) -> World {
 
 /// The port of each client, the name and the mode of its request, and its block size, or none. The
 /// first two read, and the others write.
-const REQUESTS: [(u16, &[u8], Mode, Option<u16>); 4] = [
+static REQUESTS: [(u16, &[u8], Mode, Option<u16>); 4] = [
     (1024, b"a", Mode::Octet, Some(100)),
     (1025, b"b", Mode::Netascii, None),
     (1026, b"n", Mode::Octet, Some(200)),

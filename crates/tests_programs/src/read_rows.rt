@@ -160,7 +160,7 @@ fn what_is_read_comes_whole(rt: HostRuntime) {
     plays(&rt, rt.alloc(), &read);
 }
 
-const WORLD_FAULTS: [(WorldFault, u8); 5] = [
+static WORLD_FAULTS: [(WorldFault, u8); 5] = [
     (WorldFault::NoSuchDatagram, 1),
     (WorldFault::NoSuchEnd, 2),
     (WorldFault::NoPort, 3),

@@ -194,7 +194,7 @@ fn fails_there(
 }
 
 /// The call that is refused, and the blocks before it; the seventh is after them all.
-const CALLS: [(u64, u8); 7] = [(1, 0), (2, 1), (3, 2), (4, 3), (5, 4), (6, 4), (7, 5)];
+static CALLS: [(u64, u8); 7] = [(1, 0), (2, 1), (3, 2), (4, 3), (5, 4), (6, 4), (7, 5)];
 
 #[test]
 fn fault_each(rt: HostRuntime) {

@@ -10,7 +10,7 @@ const UNWRITABLE: &[u8] = b"tftp-show: output unwritable\n";
 
 /// What is read, whether the reader fails then, what the writer does, and the message of a run that
 /// fails.
-const RUNS: [(&[u8], bool, Takes, &[u8]); 5] = [
+static RUNS: [(&[u8], bool, Takes, &[u8]); 5] = [
     (b"", true, Takes::All, UNREADABLE),
     (b"00040000\n", true, Takes::All, UNREADABLE),
     (b"00040000\n0004", true, Takes::All, UNREADABLE),

@@ -36,7 +36,7 @@ static CLIENT_ENDS: [(ClientOutcome, &str); 5] = [
 
 /// The status of `tftp`: 0 for a complete transfer, 1 for one that failed, and 2 if none was
 /// opened.
-const STATUSES: [(ClientOutcome, u8); 3] = [
+static STATUSES: [(ClientOutcome, u8); 3] = [
     (ClientOutcome::Complete(0), 0),
     (ClientOutcome::Failed(Outcome::TimedOut), 1),
     (ClientOutcome::NotOpened(OpenFault::TooLarge), 2),
@@ -183,7 +183,7 @@ fn server_lines(rt: HostRuntime) {
 
 /// The bytes transferred, the total, the time in milliseconds, and the line of them: a megabyte in
 /// 80 ms is 12.5 MB/s.
-const PROGRESS_LINES: [(u64, Option<u64>, u64, &str); 8] = [
+static PROGRESS_LINES: [(u64, Option<u64>, u64, &str); 8] = [
     (1_000_000, None, 80, "1000000 bytes, 12.5 MB/s"),
     (
         999,
@@ -217,7 +217,7 @@ fn progress_lines(rt: HostRuntime) {
 }
 
 /// Times in milliseconds, and whether a line is due: ten a second at most.
-const LINES: [(u64, bool); 6] = [
+static LINES: [(u64, bool); 6] = [
     (5, true),
     (6, false),
     (104, false),
@@ -239,7 +239,7 @@ fn lines_are_rare(rt: HostRuntime) {
 /// `date -u` prints them, the last second of a leap day and the last that has a text among them; a
 /// later time has none. The priority of a warning stays before the time, and the server is behind
 /// it.
-const STAMPED_LINES: [(&str, u64, Option<u8>, &str); 8] = [
+static STAMPED_LINES: [(&str, u64, Option<u8>, &str); 8] = [
     ("words", 0, None, "1970-01-01T00:00:00.000Z words"),
     (
         "words",
@@ -279,7 +279,7 @@ fn stamped_lines(rt: HostRuntime) {
 }
 
 /// Numbers of errno(3), and their words; the last has none.
-const REASONS: [(i32, &str); 5] = [
+static REASONS: [(i32, &str); 5] = [
     (16, "busy"),
     (17, "file exists"),
     (21, "is a folder"),

@@ -8,7 +8,7 @@ use tftp_sockets::{Port, Watch, deadline, index_of, is_due, wait_for};
 
 /// Readings of a clock, from 5,000 on, and the time in milliseconds: a wait counts for a second at
 /// most, and a clock that goes back counts for nothing.
-const READINGS: [(u64, u64); 5] = [
+static READINGS: [(u64, u64); 5] = [
     (5_200, 200),
     (5_200, 200),
     (9_999, 1_200),
@@ -17,7 +17,7 @@ const READINGS: [(u64, u64); 5] = [
 ];
 
 /// The seconds until a timeout, and when a transfer of the time 700 is due.
-const DEADLINES: [(u16, u64); 2] = [(1, 1_700), (2_040, 2_040_700)];
+static DEADLINES: [(u16, u64); 2] = [(1, 1_700), (2_040, 2_040_700)];
 
 #[test]
 fn a_watch_goes_on_until_a_transfer_is_due(rt: HostRuntime) {
@@ -69,7 +69,7 @@ fn the_nearest_deadline_is_waited_for(rt: HostRuntime) {
 }
 
 /// Outcomes, whether a block size was requested, and whether the transfer is tried again.
-const OUTCOMES: [(Outcome, Option<u16>, bool); 4] = [
+static OUTCOMES: [(Outcome, Option<u16>, bool); 4] = [
     (Outcome::PeerError(8), Some(8), true),
     (Outcome::PeerError(8), None, false),
     (Outcome::PeerError(0), Some(8), false),
