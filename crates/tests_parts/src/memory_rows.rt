@@ -167,7 +167,7 @@ static STORE_FAULTS: [(StoreFault, u8); 5] = [
 ];
 
 #[test]
-fn faults_are_numbered(rt: HostRuntime) {
+fn faults_of_files_are_numbered(rt: HostRuntime) {
     for &(fault, number) in &STORE_FAULTS {
         let found = (fault, fault.number());
         expect_equal(&rt, &found, &(fault, number), "its number");
