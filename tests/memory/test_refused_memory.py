@@ -66,7 +66,7 @@ REFUSED = {"E": r"refused Memory", "C": r"#\d+ \S+ > \S+ ERROR 3 \(disk full\)"}
 COMMANDS = [
     ("tftp-show", LINES, "S+U+S+"), ("tftp-show wire.pcap", b"", "S+U+S+"), ("tftp-show --flow", FLOW, "S+U+S+"),
     ("tftp-show --flow --json", FLOW, "S+U+S+"), ("tftp-show --flow --svg picture", FLOW, "S+U+S+"),
-    ("tftp-play", SCRIPT, "S+OU+O[OWE]+[SOWEC]+"), ("tftp-play --svg picture", SCRIPT, "S+OU+O[OWE]+[SOWEC]+"),
+    ("tftp-play", SCRIPT, "S+O+U+O[OWE]+[SOWEC]+"), ("tftp-play --svg picture", SCRIPT, "S+O+U+O[OWE]+[SOWEC]+"),
     ("tftp get SERVER a local --no-dally", b"", "S+U+[FMS]+T"), ("tftp put SERVER abc a", b"", "S+U+[FMS]+W?"),
 ]
 

@@ -81,7 +81,7 @@ fn goes_both_ways(rt: &impl Abort, alloc: Global, host: &[u8], wire: &[u8]) {
 }
 
 #[test]
-fn texts_both_ways(rt: HostRuntime) {
+fn every_cut(rt: HostRuntime) {
     for &(host, wire) in &TEXTS {
         goes_both_ways(&rt, rt.alloc(), host, wire);
     }

@@ -73,7 +73,7 @@ static LINE_ENDS: [(&[Fill], usize); 4] = [
 ];
 
 #[test]
-fn line_ends_are_held_back(rt: HostRuntime) {
+fn stream_rows(rt: HostRuntime) {
     let mut source = ReadSource::new(b"\n\n".as_slice(), Mode::Netascii);
     for &(pieces, held) in &LINE_ENDS {
         fills(&rt, rt.alloc(), &mut source, pieces, "two line ends");

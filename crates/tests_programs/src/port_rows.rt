@@ -136,7 +136,7 @@ fn completes<S: Store>(rt: &impl Abort, server: &mut Server<S>) {
 }
 
 #[test]
-fn calls_on_three_transfers(rt: HostRuntime) {
+fn table_rows(rt: HostRuntime) {
     let mut server = server_of(&rt, rt.alloc(), &ABC);
     play(&rt, rt.alloc(), &mut server, OPENED);
     lends_its_block(&rt, &mut server);
