@@ -1,7 +1,6 @@
 pub mod Common
 pub mod ActionLemmas
 pub mod Appending
-pub mod Lending
 pub mod OneFileLemmas
 pub mod RowLemmas
 pub mod SenderRowLemmas

@@ -13,13 +13,13 @@ use Rattle.tftp_ends.specs.Step.{Sends, AcksAgain, in_phase, having_sent}
 use Rattle.tftp_ends.specs.Step.{filled_turn}
 
 -- without DATA 1 a read cannot be served, and the source has the bytes left that the fill left
-pub fails_to_start : {S : Type 0} (sources : SourceMeaning S) (length : ℕ) (source source' : S) (buffer : List ℕ) →
+pub fails_to_start : {S : Type 0} (sources : SourceMeaning S) (length : ℕ) (source source' : S) (old buffer : List ℕ) →
     ReadsData (sources.left source) (sources.left source')
     (sources.may_fail source (block_length length DEFAULT_BLOCK 1))
     (sources.fails source (block_length length DEFAULT_BLOCK 1)) (λ piece. sources.gives source piece source') 1
-    (block_length length DEFAULT_BLOCK 1) buffer false →
+    (block_length length DEFAULT_BLOCK 1) old buffer false →
     FailsToStart sources length source source'
-fails_to_start sources length source source' buffer o =
+fails_to_start sources length source source' old buffer o =
     record {
       cannot = search rules;
       left = refl;
@@ -35,7 +35,7 @@ module _ {S : Type 0} (sources : SourceMeaning S) (terms : Terms) (number : ℕ)
       (sources.may_fail source (block_length e.role.length terms.size number))
       (sources.fails source (block_length e.role.length terms.size number))
       (λ piece. sources.gives source piece source') number
-      (block_length e.role.length terms.size number) buffer is_whole
+      (block_length e.role.length terms.size number) e.position.last_sent buffer is_whole
 
   -- a sender's step for an action that sends, and the bytes that the call lends
   abbrev pub IsSent : EndState → Outgoing → Type 0

@@ -1,5 +1,5 @@
 -- Internal to the code: the capacity reserved for the datagram to send, and what the buffers hold.
-use Rattle.std.specs.Prelude.{ℕ, ◌≡◌, ◌≤◌, ◌+◌, Bool, true, false, List, [], length, Option, Result}
+use Rattle.std.specs.Prelude.{ℕ, ◌≡◌, ◌≤◌, ◌+◌, Bool, true, false, List, length, Option, Result}
 use Rattle.tftp_file.specs.declared.fault.FileFault.{FileFault}
 use Rattle.tftp_ends.specs.declared.action.Action.{Action}
 use Rattle.tftp_ends.specs.declared.action.Action.TheVariants.{Respond, Send, Store}
@@ -33,19 +33,20 @@ room_of e (Store terms number) = MAX_ERROR
 abbrev pub FitsRoom : EndState → List ℕ → Action → Type 0
 FitsRoom e datagram action = length datagram ≤ room_of e action
 
--- a buffer holds DATA with a whole block, or is empty
-abbrev pub HoldsData : ℕ → ℕ → List ℕ → List ℕ → Bool → Type 0
-HoldsData number want piece buffer true =
+-- the last datagram sent is DATA with a whole block, or that before it
+abbrev pub HoldsData : ℕ → ℕ → List ℕ → List ℕ → List ℕ → Bool → Type 0
+HoldsData number want piece before buffer true =
     (buffer ≡ data_bytes number piece) × (length buffer ≤ 4 + want)
-HoldsData number want piece buffer false = buffer ≡ []
+HoldsData number want piece before buffer false = buffer ≡ before
 
--- a block was read from a source, which gave it, and the buffer holds it as DATA if it is whole
+-- a block was read from a source, which gave it, and the buffer holds it as DATA if it is whole;
+-- if not, the buffer is unchanged
 pub record ReadsData (before after : Option (List ℕ)) (may_fail must_fail : Type 0)
-    (gives : List ℕ → Type 0) (number want : ℕ) (buffer : List ℕ) (is_whole : Bool)
-    : Type 0 where
+    (gives : List ℕ → Type 0) (number want : ℕ) (old buffer : List ℕ)
+    (is_whole : Bool) : Type 0 where
   pub answer : Result ℕ FileFault
   pub piece : List ℕ
   pub reads : ReadsBlock before after may_fail must_fail want piece answer
   pub gave : gives piece
   pub whole : is_whole ≡ result_count_is want answer
-  pub holds : HoldsData number want piece buffer is_whole
+  pub holds : HoldsData number want piece old buffer is_whole

@@ -18,6 +18,7 @@ ghost use Rattle.tftp_ends.specs.declared.action.Action.TheVariants.{Send, Store
 ghost use Rattle.tftp_ends.specs.declared.phase.Phase.TheVariants.{Receiving, Sending};
 
 use crate::action::{Action, Response};
+use crate::decoding::decode_packet;
 use crate::endpoint::Endpoint;
 use crate::error_reply::ErrorReply;
 use crate::fault::EndFault;
@@ -33,7 +34,7 @@ use crate::waiting::{reader_action, writer_action};
 use std::marker::Model;
 use tftp_file::{Files, NetDecoder, Sink, Source};
 use tftp_negotiate::DEFAULT_BLOCK;
-use tftp_wire::{PacketRef, data_in, decode_ref, has_error_opcode};
+use tftp_wire::{PacketRef, data_in, has_error_opcode};
 
 /// One end of a transfer.
 ///
@@ -104,12 +105,15 @@ impl End {
         ensures record { result ≡ record_of self.now }
         ensures resends { ResendsAck self.now self.now.position.phase }
     {
-        let terms = self.phase.terms();
+        let (peer, size, timeout) = match self.phase.terms() {
+            Some(terms) => (Some(terms.peer), terms.size, terms.timeout),
+            None => (None, DEFAULT_BLOCK, None),
+        };
         Record {
             side: self.role.side,
-            peer: terms.map(|terms| terms.peer),
-            size: terms.map_or(DEFAULT_BLOCK, |terms| terms.size),
-            timeout: terms.and_then(|terms| terms.timeout),
+            peer,
+            size,
+            timeout,
             number: self.phase.number(),
             complete: self.phase.is_complete(),
             outcome: self.phase.outcome(),
@@ -141,8 +145,10 @@ impl End {
     pub fn interval(&self) -> u8
         ensures { result ≡ interval_of (terms_of self.now.position.phase) }
     {
-        let agreed = self.phase.terms().and_then(|terms| terms.timeout);
-        agreed.unwrap_or(DEFAULT_INTERVAL)
+        match self.phase.terms() {
+            Some(terms) => terms.timeout.unwrap_or(DEFAULT_INTERVAL),
+            None => DEFAULT_INTERVAL,
+        }
     }
 
     /// The timeouts since the opening or the last progress: the retries that are used up. With
@@ -226,7 +232,7 @@ impl End {
         ensures fits { ActionFits self.now result }
         ensures bytes { BytesFit self.now bytes.now result }
     {
-        let decoded = decode_ref(bytes).ok();
+        let decoded = decode_packet(bytes);
         let is_error = has_error_opcode(bytes);
         if self.is_wrong_peer(from) {
             return Action::Respond(if is_error {
@@ -500,9 +506,6 @@ impl End {
         if self.is_closed() {
             return Err(EndFault::Closed);
         }
-        let before = self.phase();
-        let response = self.timeout_response();
-        let (to, outgoing) = self.respond(response, self.last_sent_to);
-        Ok((before.step_to(self.phase(), to), outgoing))
+        Ok(self.respond(self.timeout_response(), self.last_sent_to))
     }
 }

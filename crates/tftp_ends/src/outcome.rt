@@ -67,19 +67,20 @@ impl fmt::Display for Outcome {
     ghost output = { λ outcome. Some (outcome_text outcome) };
 
     fn fmt<W: fmt::Write>(&self, f: &mut fmt::Formatter<W>) -> fmt::Result {
-        match *self {
-            Outcome::Complete => f.write_str("Complete"),
-            Outcome::TimedOut => f.write_str("TimedOut"),
-            Outcome::PeerError(code) => write!(f, "PeerError({code})"),
-            Outcome::Illegal => f.write_str("Illegal"),
+        let word = match *self {
+            Outcome::PeerError(code) => return write!(f, "PeerError({code})"),
             Outcome::Refused(refusal) => {
                 let word = refusal_word(refusal);
-                write!(f, "Refused({word})")
+                return write!(f, "Refused({word})");
             }
-            Outcome::TooLarge => f.write_str("TooLarge"),
-            Outcome::StoreFault => f.write_str("StoreFault"),
-            Outcome::SourceFault => f.write_str("SourceFault"),
-            Outcome::NotNetascii => f.write_str("NotNetascii"),
-        }
+            Outcome::Complete => "Complete",
+            Outcome::TimedOut => "TimedOut",
+            Outcome::Illegal => "Illegal",
+            Outcome::TooLarge => "TooLarge",
+            Outcome::StoreFault => "StoreFault",
+            Outcome::SourceFault => "SourceFault",
+            Outcome::NotNetascii => "NotNetascii",
+        };
+        f.write_str(word)
     }
 }

@@ -6,7 +6,7 @@ ghost use Rattle.tftp_ends.specs.Files.{KeepsSink};
 ghost use Rattle.tftp_ends.specs.OneFile.{ReceiverActs, ReceiverActLacksMemory};
 ghost use Rattle.tftp_ends.specs.Step.{Turn, AcksAgain, Lends, UsesFile, ack_bytes};
 ghost use Rattle.tftp_ends.specs.Step.{having_sent, in_phase, response_turn, with_position};
-ghost use Rattle.tftp_ends.specs.Step.{lent};
+ghost use Rattle.tftp_ends.specs.Step.{lent, reported};
 ghost use Rattle.tftp_ends.specs.Phase.{refused};
 ghost use Rattle.tftp_ends.specs.Room.{room_of, response_room};
 ghost use Rattle.tftp_ends.specs.End.{is_sender, number_of, step_of, terms_of};
@@ -133,13 +133,22 @@ impl End {
         }
     }
 
-    /// Carries out a response. Returns the destination and the datagram to send. It allocates no
-    /// memory.
-    pub(crate) fn respond(
-        &mut self,
-        response: Response,
-        from: Endpoint,
-    ) -> (Option<Endpoint>, Outgoing)
+    /// Carries out a response. Returns the step and the datagram to send. It allocates no memory.
+    pub(crate) fn respond(&mut self, response: Response, from: Endpoint) -> (Step, Outgoing)
+        requires fits { ResponseFits self.old response }
+        requires reply { ReplyFits self.old response }
+        ensures lends { Lends self.old (response_turn response from self.old) self.new
+            result.0.to result.1 }
+        ensures step { result.0 ≡ reported self.old (response_turn response from self.old) }
+        ensures room { length (lent result.1 self.new) ≤ response_room self.old response }
+    {
+        let before = self.phase();
+        let (to, outgoing) = self.carry_out(response, from);
+        (before.step_to(self.phase(), to), outgoing)
+    }
+
+    /// Changes the state for a response. Returns the destination and the datagram to send.
+    fn carry_out(&mut self, response: Response, from: Endpoint) -> (Option<Endpoint>, Outgoing)
         requires fits { ResponseFits self.old response }
         requires reply { ReplyFits self.old response }
         ensures lends { Lends self.old (response_turn response from self.old) self.new
@@ -178,49 +187,6 @@ impl End {
             Response::Complete => {
                 self.go_into(self.phase.completed());
                 (None, Outgoing::Nothing)
-            }
-        }
-    }
-
-    /// A receiver carries out an action for a datagram of these bytes. Returns the destination and
-    /// the datagram to send.
-    #[inline(always)]
-    pub(crate) fn act_as_receiver<K: Sink>(
-        &mut self,
-        action: Action,
-        sink: &mut K,
-        from: Endpoint,
-        bytes: &[u8],
-    ) -> Result<(Option<Endpoint>, Outgoing), AllocError>
-        requires action { ActionFits self.old action }
-        requires fits { BytesFit self.old bytes.now action }
-        requires receiver { is_sender self.old.role.side ≡ false }
-        ensures acts { IfOk result (λ answer. (turn : Turn)
-            × ReceiverActs K.meaning action from bytes.now self.old sink.old turn sink.new
-            × AcksAgain self.old turn action
-            × Lends self.old turn self.new answer.0 answer.1) }
-        ensures room { IfOk result (λ answer.
-            length (lent answer.1 self.new) ≤ room_of self.old action) }
-        ensures uses { OnErr result (UsesFile action) }
-        ensures why { OnErr result (ReceiverActLacksMemory K.meaning action bytes.now self.old
-            sink.old sink.new) }
-        ensures err { OnErr result ((self.new ≡ self.old)
-            × KeepsSink K.meaning sink.old sink.new) }
-        ensures same { K.is_same sink.old sink.new }
-    {
-        match action {
-            Action::Respond(response) => Ok(self.respond(response, from)),
-            Action::Send { .. } => unreachable!(),
-            Action::Store { terms, number } => {
-                let (step, outgoing) = self.store(
-                    self.phase,
-                    terms,
-                    number,
-                    piece_of(bytes),
-                    sink,
-                    from,
-                )?;
-                Ok((step.to, outgoing))
             }
         }
     }

@@ -79,8 +79,9 @@ impl End {
         if self.is_closed() {
             return Err(EndFault::Closed);
         }
-        out.reserve(self.response_room(self.timeout_response()))?;
-        let (step, outgoing) = self.handle_timeout()?;
+        let response = self.timeout_response();
+        out.reserve(self.response_room(response))?;
+        let (step, outgoing) = self.respond(response, self.last_sent_to);
         self.append_outgoing(outgoing, out);
         Ok(step)
     }

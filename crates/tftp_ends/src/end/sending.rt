@@ -1,25 +1,22 @@
 //! How a sender carries out an action: it builds DATA in the spare buffer, and swaps that with the
 //! buffer of the last datagram sent.
 
-ghost use Rattle.std.specs.Prelude.{ℕ, ◌≡◌, ◌≤◌, ◌<◌, ◌+◌, List, [], true, length, OnOk, OnErr};
-ghost use Rattle.std.specs.Prelude.{IfOk, Some, vec_len, vec_capacity};
+ghost use Rattle.std.specs.Prelude.{◌≡◌, ◌≤◌, ◌<◌, ◌+◌, ◌⊎◌, [], length, OnOk, OnErr};
+ghost use Rattle.std.specs.Prelude.{IfOk, IfErr, Some, vec_len, vec_capacity};
 ghost use Rattle.tftp_ends.specs.BlockRead.{is_whole};
-ghost use Rattle.tftp_ends.specs.End.{is_sender};
 ghost use Rattle.tftp_ends.specs.Files.{KeepsSource};
-ghost use Rattle.tftp_ends.specs.Fits.{ActionFits, BytesFit, SentFits};
+ghost use Rattle.tftp_ends.specs.Fits.{SentFits};
 ghost use Rattle.tftp_ends.specs.Sound.{IsSending};
 ghost use Rattle.tftp_ends.specs.declared.phase.Phase.TheVariants.{Sending};
-ghost use Rattle.tftp_ends.specs.OneFile.{SenderActs, SenderActLacksMemory};
-ghost use Rattle.tftp_ends.specs.Room.{ReadsData, room_of};
+ghost use Rattle.tftp_ends.specs.Room.{ReadsData};
 ghost use Rattle.tftp_ends.specs.Shortage.{FillLacksMemory, SendLacksMemory};
-ghost use Rattle.tftp_ends.specs.Step.{Turn, AcksAgain, Lends, Sends, UsesFile, block_length};
-ghost use Rattle.tftp_ends.specs.Step.{lent, reported};
+ghost use Rattle.tftp_ends.specs.Step.{Turn, Lends, Sends, block_length, lent, reported};
 ghost use Rattle.tftp_ends.specs.declared.reply.TheConstants.{MAX_ERROR};
 
-use crate::action::Action;
 use crate::end::End;
 use crate::endpoint::Endpoint;
 use crate::error_reply::ErrorReply;
+use crate::fault::EndFault;
 use crate::next_block::NextBlock;
 use crate::outcome::Outcome;
 use crate::outgoing::Outgoing;
@@ -47,110 +44,64 @@ pub(crate) enum BlockRead {
     Changed,
 }
 
-/// Reserves capacity for a datagram of `length` bytes in both buffers, so that they grow only for
-/// one that is longer than the last datagram sent.
-#[inline(always)]
-fn reserve_datagram(
-    last_sent: &mut Vec<u8>,
-    spare: &mut Vec<u8>,
-    length: usize,
-) -> Result<(), AllocError>
-    requires empty { spare.old.items ≡ [] }
-    requires room { vec_len last_sent.old ≤ vec_capacity spare.old }
-    ensures ok { OnOk result ((length ≤ vec_capacity last_sent.new)
-        × (length ≤ vec_capacity spare.new)) }
-    ensures items { (last_sent.new.items ≡ last_sent.old.items) × (spare.new.items ≡ []) }
-    ensures capacity { (vec_capacity last_sent.old ≤ vec_capacity last_sent.new)
-        × (vec_capacity spare.old ≤ vec_capacity spare.new) }
-    ensures why { OnErr result (vec_len last_sent.old < length) }
-{
-    if last_sent.len() < length {
-        last_sent.reserve(length - last_sent.len())?;
-        spare.reserve(length)?;
-    }
-    Ok(())
-}
-
-/// Replaces the buffer's bytes by DATA of this number, with a block of `want` bytes from the
-/// source. If the source does not give the whole block, the buffer is left empty.
+/// Builds DATA of this number in the spare buffer, with a block of `want` bytes from the source, and
+/// swaps it with the buffer of the last datagram sent. If the source does not give the whole block,
+/// the last datagram sent is unchanged. The buffers grow only for a datagram that is longer than the
+/// last one sent.
 #[inline(always)]
 pub(crate) fn read_data<S: Source>(
     source: &mut S,
     number: u16,
     want: usize,
-    buffer: &mut Vec<u8>,
+    last_sent: &mut Vec<u8>,
+    spare: &mut Vec<u8>,
 ) -> Result<BlockRead, AllocError>
-    requires { HEADER + want ≤ vec_capacity buffer.old }
+    requires short { want < 65536 }
+    requires empty { spare.old.items ≡ [] }
+    requires room { vec_len last_sent.old ≤ vec_capacity spare.old }
     ensures reads { IfOk result (λ read. ReadsData (S.meaning.left source.old)
         (S.meaning.left source.new) (S.meaning.may_fail source.old want)
         (S.meaning.fails source.old want) (λ piece. S.meaning.gives source.old piece source.new)
-        number want buffer.new.items (is_whole read)) }
-    ensures capacity { vec_capacity buffer.old ≤ vec_capacity buffer.new }
+        number want last_sent.old.items last_sent.new.items (is_whole read)) }
+    ensures header { OnOk result (HEADER ≤ vec_capacity last_sent.new) }
+    ensures spare { (spare.new.items ≡ [])
+        × (length last_sent.new.items ≤ vec_capacity spare.new) }
     ensures err { OnErr result (KeepsSource S.meaning source.old source.new
-        × (buffer.new.items ≡ [])) }
-    ensures why { OnErr result (FillLacksMemory S.meaning want source.old source.new) }
+        × (last_sent.new.items ≡ last_sent.old.items)
+        × (vec_capacity last_sent.old ≤ vec_capacity last_sent.new)) }
+    ensures why { OnErr result (((vec_len last_sent.old < HEADER + want)
+        × (source.new ≡ source.old)) ⊎ FillLacksMemory S.meaning want source.old source.new) }
     ensures same { S.is_same source.old source.new }
 {
-    buffer.clear();
-    let Ok(()) = append_data_header(buffer, number) else {
+    if last_sent.len() < HEADER + want {
+        last_sent.reserve(HEADER + want - last_sent.len())?;
+        spare.reserve(HEADER + want)?;
+    }
+    let Ok(()) = append_data_header(spare, number) else {
         unreachable!()
     };
-    match source.fill(want, buffer) {
+    match source.fill(want, spare) {
         Ok(count) => {
             if count == want {
+                mem::swap(last_sent, spare);
+                spare.clear();
                 return Ok(BlockRead::Whole);
             }
-            buffer.clear();
+            spare.clear();
             Ok(BlockRead::Changed)
         }
         Err(FileFault::Read) => {
-            buffer.clear();
+            spare.clear();
             Ok(BlockRead::Changed)
         }
         Err(FileFault::Memory) => {
-            buffer.clear();
+            spare.clear();
             Err(AllocError)
         }
     }
 }
 
 impl End {
-    /// A sender carries out an action. Returns the destination and the datagram to send: DATA, or an
-    /// ERROR if the source does not give the block.
-    // A block's step is one function: no action is copied between calls.
-    #[inline(always)]
-    pub(crate) fn act_as_sender<S: Source>(
-        &mut self,
-        action: Action,
-        source: &mut S,
-        from: Endpoint,
-    ) -> Result<(Option<Endpoint>, Outgoing), AllocError>
-        requires action { ActionFits self.old action }
-        requires fits { (bytes : List ℕ) × BytesFit self.old bytes action }
-        requires sender { is_sender self.old.role.side ≡ true }
-        ensures acts { IfOk result (λ answer. (turn : Turn)
-            × SenderActs S.meaning action from self.old source.old turn source.new
-            × AcksAgain self.old turn action
-            × Lends self.old turn self.new answer.0 answer.1) }
-        ensures room { IfOk result (λ answer.
-            length (lent answer.1 self.new) ≤ room_of self.old action) }
-        ensures uses { OnErr result (UsesFile action) }
-        ensures why { OnErr result (SenderActLacksMemory S.meaning action self.old
-            source.old source.new) }
-        ensures err { OnErr result ((self.new ≡ self.old)
-            × KeepsSource S.meaning source.old source.new) }
-        ensures same { S.is_same source.old source.new }
-    {
-        match action {
-            Action::Respond(response) => Ok(self.respond(response, from)),
-            Action::Send { terms, number } => {
-                let (step, outgoing) = self.send(self.phase, terms, number, source, from)?;
-                Ok((step.to, outgoing))
-            }
-            Action::Store { .. } => unreachable!(),
-        }
-    }
-
     /// Sends the block of this number: DATA, or an ERROR if the source does not give the block. Then
     /// the last datagram sent is unchanged. `before` is the phase: where it is known, no test of it is
     /// left.
@@ -162,7 +113,7 @@ impl End {
         number: u16,
         source: &mut S,
         from: Endpoint,
-    ) -> Result<(Step, Outgoing), AllocError>
+    ) -> Result<(Step, Outgoing), EndFault>
         requires before { self.old.position.phase ≡ before }
         requires sending { IsSending self.old terms }
         requires sent { SentFits self.old (Some terms) }
@@ -174,16 +125,13 @@ impl End {
             ≤ MAX_ERROR + block_length self.old.role.length terms.size number) }
         ensures why { OnErr result (SendLacksMemory S.meaning
             (block_length self.old.role.length terms.size number) self.old source.old source.new) }
-        ensures err { OnErr result ((self.new ≡ self.old)
+        ensures err { IfErr result (λ fault. (fault ≡ EndFault.Memory) × (self.new ≡ self.old)
             × KeepsSource S.meaning source.old source.new) }
         ensures same { S.is_same source.old source.new }
     {
         let want = block_length(self.role.length, terms.size, number);
-        reserve_datagram(&mut self.last_sent, &mut self.spare, HEADER + want)?;
-        match read_data(source, number, want, &mut self.spare)? {
+        match read_data(source, number, want, &mut self.last_sent, &mut self.spare)? {
             BlockRead::Whole => {
-                mem::swap(&mut self.last_sent, &mut self.spare);
-                self.spare.clear();
                 self.last_sent_to = from;
                 let phase = Phase::Sending { terms, number };
                 self.retries_left = before.retries_left(
@@ -208,7 +156,7 @@ impl End {
         next: NextBlock,
         source: &mut S,
         from: Endpoint,
-    ) -> Result<(Step, Outgoing), AllocError>
+    ) -> Result<(Step, Outgoing), EndFault>
         requires phase { self.old.position.phase ≡ Sending next.terms next.newest }
         requires sending { IsSending self.old next.terms }
         ensures sends { IfOk result (λ made. (turn : Turn)
@@ -220,16 +168,19 @@ impl End {
         ensures why { OnErr result (SendLacksMemory S.meaning
             (block_length self.old.role.length next.terms.size next.number) self.old
             source.old source.new) }
-        ensures err { OnErr result ((self.new ≡ self.old)
+        ensures err { IfErr result (λ fault. (fault ≡ EndFault.Memory) × (self.new ≡ self.old)
             × KeepsSource S.meaning source.old source.new) }
         ensures same { S.is_same source.old source.new }
     {
         let want = block_length(self.role.length, next.terms.size, next.number);
-        reserve_datagram(&mut self.last_sent, &mut self.spare, HEADER + want)?;
-        match read_data(source, next.number, want, &mut self.spare)? {
+        match read_data(
+            source,
+            next.number,
+            want,
+            &mut self.last_sent,
+            &mut self.spare,
+        )? {
             BlockRead::Whole => {
-                mem::swap(&mut self.last_sent, &mut self.spare);
-                self.spare.clear();
                 self.last_sent_to = from;
                 let NextBlock {
                     terms,

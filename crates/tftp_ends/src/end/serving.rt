@@ -38,25 +38,6 @@ fn first_ack(alloc: Global) -> Result<Vec<u8>, AllocError>
     Ok(bytes)
 }
 
-/// Two empty buffers with capacity for a datagram of this many bytes, for which `out` then has
-/// capacity as well.
-fn first_buffers(
-    alloc: Global,
-    count: usize,
-    out: &mut Vec<u8>,
-) -> Result<(Vec<u8>, Vec<u8>), AllocError>
-    ensures empty { IfOk result (λ made. (made.0.items ≡ []) × (made.1.items ≡ [])) }
-    ensures room { IfOk result (λ made. (count ≤ vec_capacity made.0)
-        × (count ≤ vec_capacity made.1)) }
-    ensures out { OnOk result (length out.old.items + count ≤ vec_capacity out.new) }
-    ensures items { out.new.items ≡ out.old.items }
-    ensures capacity { vec_capacity out.old ≤ vec_capacity out.new }
-{
-    out.reserve(count)?;
-    let spare = Vec::with_capacity(alloc, count)?;
-    Ok((Vec::with_capacity(alloc, count)?, spare))
-}
-
 /// The OACK of the agreed options.
 fn oack(alloc: Global, agreed: &Agreed) -> Result<Vec<u8>, AllocError>
     ensures ok { IfOk result (λ v. v.items ≡ oack_bytes agreed.now) }
@@ -165,7 +146,7 @@ impl End {
         if agreed.is_empty() {
             return End::send_first(alloc, source, peer, role, out);
         }
-        Ok(End::send_oack(alloc, peer, agreed, role, out)?)
+        End::send_oack(alloc, peer, agreed, role, out)
     }
 
     /// Opens a server's end that sends, by DATA 1.
@@ -196,8 +177,10 @@ impl End {
         ensures same { S.is_same source.old source.new }
     {
         let want = block_length(role.length, DEFAULT_BLOCK, 1);
-        let (mut last_sent, spare) = first_buffers(alloc, HEADER + want, out)?;
-        match read_data(source, 1, want, &mut last_sent)? {
+        out.reserve(HEADER + want)?;
+        let mut last_sent = Vec::new(alloc);
+        let mut spare = Vec::new(alloc);
+        match read_data(source, 1, want, &mut last_sent, &mut spare)? {
             BlockRead::Changed => Err(OpenFault::SourceFault),
             BlockRead::Whole => {
                 let Ok(()) = out.extend_from_slice(&last_sent) else {
@@ -220,7 +203,7 @@ impl End {
         agreed: &Agreed,
         role: Role,
         out: &mut Vec<u8>,
-    ) -> Result<(End, Step), AllocError>
+    ) -> Result<(End, Step), OpenFault>
         requires sends { is_sender role.side ≡ true }
         requires fits { role.length < 65535 * size agreed.now }
         ensures end { IfOk result (λ o. (o.0 ≡ opened role
@@ -228,7 +211,8 @@ impl End {
             × (out.new.items ≡ out.old.items ++ oack_bytes agreed.now)) }
         ensures step { IfOk result (λ o. o.1 ≡ opening_step peer) }
         ensures capacity { vec_capacity out.old ≤ vec_capacity out.new }
-        ensures err { OnErr result (out.new.items ≡ out.old.items) }
+        ensures err { IfErr result (λ fault. (fault ≡ OpenFault.Memory)
+            × (out.new.items ≡ out.old.items)) }
     {
         let last_sent = oack(alloc, agreed)?;
         let spare = Vec::with_capacity(alloc, last_sent.len())?;
@@ -263,10 +247,10 @@ impl End {
     {
         if agreed.is_empty() {
             let ack = first_ack(alloc)?;
-            return Ok(End::receive(alloc, default_terms(peer), mode, retries, ack, out)?);
+            return End::receive(alloc, default_terms(peer), mode, retries, ack, out);
         }
         let oack = oack(alloc, agreed)?;
-        Ok(End::receive(alloc, agreed_terms(peer, agreed), mode, retries, oack, out)?)
+        End::receive(alloc, agreed_terms(peer, agreed), mode, retries, oack, out)
     }
 
     /// Opens a server's end that receives, by `answer`.
@@ -277,7 +261,7 @@ impl End {
         retries: u8,
         answer: Vec<u8>,
         out: &mut Vec<u8>,
-    ) -> Result<(End, Step), AllocError>
+    ) -> Result<(End, Step), OpenFault>
         requires resends { not terms.by_oack ≡ true → answer.items ≡ ack_bytes 0 }
         requires short { length answer.items ≤ MAX_REQUEST }
         requires room { HEADER ≤ vec_capacity answer }
@@ -286,7 +270,8 @@ impl End {
             × (out.new.items ≡ out.old.items ++ answer.items)) }
         ensures step { IfOk result (λ o. o.1 ≡ opening_step terms.peer) }
         ensures capacity { vec_capacity out.old ≤ vec_capacity out.new }
-        ensures err { OnErr result (out.new.items ≡ out.old.items) }
+        ensures err { IfErr result (λ fault. (fault ≡ OpenFault.Memory)
+            × (out.new.items ≡ out.old.items)) }
     {
         out.extend_from_slice(&answer)?;
         let phase = Phase::Receiving { terms, number: 0 };

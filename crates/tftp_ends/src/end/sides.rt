@@ -16,6 +16,7 @@ ghost use Rattle.tftp_ends.specs.Room.{FitsRoom};
 ghost use Rattle.tftp_ends.specs.Shortage.{AppendsNothing};
 ghost use Rattle.tftp_ends.specs.Step.{Turn, Lends, UsesFile, reported, lent};
 
+use crate::action::Action;
 use crate::end::End;
 use crate::end::acting::piece_of;
 use crate::endpoint::Endpoint;
@@ -93,7 +94,7 @@ impl End {
         ensures same { S.is_same source.old source.new }
         ensures side { is_sender self.new.role.side ≡ true }
     {
-        Ok(self.send_after(next, source, from)?)
+        self.send_after(next, source, from)
     }
 
     /// As [`End::handle_datagram_as_sender`], for any datagram. It takes more time for the ACK of the
@@ -127,10 +128,11 @@ impl End {
         if self.is_closed() {
             return Err(EndFault::Closed);
         }
-        let before = self.phase();
-        let action = self.action_as_sender(from, bytes);
-        let (to, outgoing) = self.act_as_sender(action, source, from)?;
-        Ok((before.step_to(self.phase(), to), outgoing))
+        match self.action_as_sender(from, bytes) {
+            Action::Respond(response) => Ok(self.respond(response, from)),
+            Action::Send { terms, number } => self.send(self.phase, terms, number, source, from),
+            Action::Store { .. } => unreachable!(),
+        }
     }
 
     /// As [`End::handle_datagram`], for a receiver alone: `sink` is its file.
@@ -208,7 +210,7 @@ impl End {
             terms,
             number: newest,
         };
-        Ok(self.store(before, terms, number, piece_of(bytes), sink, from)?)
+        self.store(before, terms, number, piece_of(bytes), sink, from)
     }
 
     /// As [`End::handle_datagram_as_receiver`], for any datagram. It takes more time for the DATA of
@@ -242,9 +244,12 @@ impl End {
         if self.is_closed() {
             return Err(EndFault::Closed);
         }
-        let before = self.phase();
-        let action = self.action_as_receiver(from, bytes);
-        let (to, outgoing) = self.act_as_receiver(action, sink, from, bytes)?;
-        Ok((before.step_to(self.phase(), to), outgoing))
+        match self.action_as_receiver(from, bytes) {
+            Action::Respond(response) => Ok(self.respond(response, from)),
+            Action::Send { .. } => unreachable!(),
+            Action::Store { terms, number } => {
+                self.store(self.phase, terms, number, piece_of(bytes), sink, from)
+            }
+        }
     }
 }

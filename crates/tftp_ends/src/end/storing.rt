@@ -1,7 +1,7 @@
 //! How a receiver stores a block and acknowledges it.
 
 ghost use Rattle.std.specs.Prelude.{◌≡◌, ◌≤◌, ◌++◌, [], true, false, nat_lt, length, OnErr};
-ghost use Rattle.std.specs.Prelude.{IfOk, Some, Err, ◌+◌, ◌<◌, vec_capacity};
+ghost use Rattle.std.specs.Prelude.{IfOk, IfErr, Some, Err, ◌+◌, ◌<◌, vec_capacity};
 ghost use Rattle.tftp_file.specs.Decoding.{DecodesPiece};
 ghost use Rattle.tftp_ends.specs.BlockStored.{StoresBlock, StoresPiece, StoresLast, is_last};
 ghost use Rattle.tftp_ends.specs.Files.{KeepsSink};
@@ -16,6 +16,7 @@ ghost use Rattle.tftp_ends.specs.declared.reply.TheConstants.{MAX_ERROR};
 use crate::end::End;
 use crate::endpoint::Endpoint;
 use crate::error_reply::ErrorReply;
+use crate::fault::EndFault;
 use crate::outcome::Outcome;
 use crate::outgoing::Outgoing;
 use crate::phase::{Dally, Phase, Terms};
@@ -190,7 +191,7 @@ impl End {
         piece: &[u8],
         sink: &mut K,
         from: Endpoint,
-    ) -> Result<(Step, Outgoing), AllocError>
+    ) -> Result<(Step, Outgoing), EndFault>
         requires before { self.old.position.phase ≡ before }
         requires receiver { is_sender self.old.role.side ≡ false }
         requires sent { SentFits self.old (Some terms) }
@@ -201,7 +202,7 @@ impl End {
             × Lends self.old turn self.new made.0.to made.1
             × (made.0 ≡ reported self.old turn)) }
         ensures room { IfOk result (λ made. length (lent made.1 self.new) ≤ MAX_ERROR) }
-        ensures err { OnErr result ((self.new ≡ self.old)
+        ensures err { IfErr result (λ fault. (fault ≡ EndFault.Memory) × (self.new ≡ self.old)
             × KeepsSink K.meaning sink.old sink.new) }
         ensures why { OnErr result (StoreLacksMemory K.meaning self.old.role.mode
             self.old.position.held_back piece.now sink.old sink.new) }
