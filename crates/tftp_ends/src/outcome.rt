@@ -1,7 +1,7 @@
 //! How a transfer ended.
 
 ghost use Rattle.std.specs.Prelude.{◌≡◌};
-ghost use Rattle.tftp_ends.specs.Outcome.{number_of_outcome, refusal_word};
+ghost use Rattle.tftp_ends.specs.Outcome.{number_of_outcome};
 
 use std::fmt;
 use tftp_negotiate::Refusal;
@@ -48,18 +48,6 @@ impl Outcome {
     }
 }
 
-/// The word for a refused OACK.
-fn refusal_word(refusal: Refusal) -> &'static str
-    ensures { result.now ≡ refusal_word refusal }
-{
-    match refusal {
-        Refusal::Repeated => "Repeated",
-        Refusal::TooLarge => "TooLarge",
-        Refusal::NotAsked => "NotAsked",
-        Refusal::BadValue => "BadValue",
-    }
-}
-
 impl fmt::Display for Outcome {
     ghost use Rattle.std.specs.Prelude.{Some};
     ghost use Rattle.tftp_ends.specs.Outcome.{outcome_text};
@@ -67,12 +55,12 @@ impl fmt::Display for Outcome {
     ghost output = { λ outcome. Some (outcome_text outcome) };
 
     fn fmt<W: fmt::Write>(&self, f: &mut fmt::Formatter<W>) -> fmt::Result {
-        let word = match *self {
+        let text = match *self {
             Outcome::PeerError(code) => return write!(f, "PeerError({code})"),
-            Outcome::Refused(refusal) => {
-                let word = refusal_word(refusal);
-                return write!(f, "Refused({word})");
-            }
+            Outcome::Refused(Refusal::Repeated) => "Refused(Repeated)",
+            Outcome::Refused(Refusal::TooLarge) => "Refused(TooLarge)",
+            Outcome::Refused(Refusal::NotAsked) => "Refused(NotAsked)",
+            Outcome::Refused(Refusal::BadValue) => "Refused(BadValue)",
             Outcome::Complete => "Complete",
             Outcome::TimedOut => "TimedOut",
             Outcome::Illegal => "Illegal",
@@ -81,6 +69,6 @@ impl fmt::Display for Outcome {
             Outcome::SourceFault => "SourceFault",
             Outcome::NotNetascii => "NotNetascii",
         };
-        f.write_str(word)
+        f.write_str(text)
     }
 }
