@@ -26,7 +26,7 @@ SIZES = {
     "tests and tools in Python": "tools/**/*.py tests/**/*.py",
 }
 # what is not drawn: tests, examples, and a crate that hands out others' functions
-HIDDEN = re.compile(r"tests_|serve_memory|fetch_memory|tftp_cmd")
+HIDDEN = re.compile(r"tests_|memory_examples|tftp_cmd")
 
 
 # the kinds of crates: what each is, its colours in the picture, and its crates

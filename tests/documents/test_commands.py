@@ -31,7 +31,7 @@ BLOCK = re.compile(r"(?ms)^```(\w*)\n(.*?)^```$")
 TOURS = ["README.md", "crates/tftp_main/README.md"]
 ADDRESS, PORTS = "127.0.0.1:6969", re.compile(r"\d+ \d+ (?=Complete$)")
 # The commands behind a `$` that `rt ci`, or the tests of the programs and of captures, run
-ELSEWHERE = re.compile(r"fetch_memory$|serve_memory |tftp get [\d.:]+ greeting |tshark -r FILE ")
+ELSEWHERE = re.compile(r"memory_examples|tftp get [\d.:]+ greeting |tshark -r FILE ")
 # What a command in a sentence begins with
 COMMAND = re.compile(r"(?:apt|apt-get|boot\.sh|docker|exec|find|journalctl|make|nft|python3|rt|setcap|systemctl|tcpdump"
                      r"|tftp|tftpd|tftp-show|tftp-play|tshark|tools/\S+|\./install\.sh) ")

@@ -27,7 +27,7 @@ CALLS = {
 OPEN_FILE = r"\bself\.file\.(?:metadata|sync_data|sync_all|set_permissions|set_len|read|write|seek|lock|try_lock)\("
 HOLDS_NO_FILE = r"\bfile: (?:&mut )?(?:DiskFile|DiskFolder)<"
 # Crates of tests and examples, and the library for C: its callers are trusted with what they pass
-LEFT_OUT = ("tests_", "fetch_memory", "serve_memory", "tftp_c/")
+LEFT_OUT = ("tests_", "memory_examples", "tftp_c/")
 # Files on whose calls no claim rests, and why none does
 WITHOUT_CLAIM = {
     "tftp_arguments/src/arguments.rt": "the claims are of the arguments that a command found",

@@ -33,7 +33,7 @@ def test_loopback(scene) -> None:
 def test_a_server_over_memory(scene) -> None:
     """The example of a server whose files are in memory: its text is got, and a file is put and got."""
     scene.make("a", bytes_of(1_000))
-    server = Server(scene, scene.start(of_crate("serve_memory"), [f"{scene.address}:0", "3"]))
+    server = Server(scene, scene.start(of_crate("memory_examples"), [f"{scene.address}:0", "3"]))
     scene.tftp("get", server.word, "greeting", "text").completes(24)
     scene.tftp("put", server.word, "a", "b").completes(1_000)
     scene.tftp("get", server.word, "b", "copy", "--blksize", "100").completes(1_000)

@@ -138,44 +138,58 @@ fn play(
     name: &'static str,
     moves: &[Move],
 ) -> Result<()> {
-    let alloc = rt.alloc();
+    let mut played = played_of(rt.alloc(), cap, bytes, name)?;
+    let done = played.plays(rt, moves);
+    drop(played);
+    done
+}
+
+/// A world whose server has so many slots, and whose file `a` has these bytes.
+fn played_of(alloc: Global, cap: u8, bytes: Vec<u8>, name: &'static str) -> Result<Played> {
     let mut config = Config::default();
     config.cap = cap;
     if !config.is_valid() {
-        return Ok(());
+        return Err(anyhow!("no valid configuration"));
     }
+    let path = path_of(alloc, name.as_bytes())?;
     let files = vec![in alloc; (path_of(alloc, b"a")?, bytes)]?;
-    let mut played = Played {
-        alloc,
-        world: World::new(alloc, files, config)?,
-        name,
-        path: path_of(alloc, name.as_bytes())?,
-    };
-    for &next in moves {
-        played.does(rt, next)?;
+    match World::new(alloc, files, config) {
+        Ok(world) => Ok(Played {
+            alloc,
+            world,
+            name,
+            path,
+        }),
+        Err(fault) => Err(fault.into()),
     }
-    print!(rt; "{}", played.seen()?)?;
-    Ok(())
 }
 
 impl Played {
+    /// Makes the moves, and prints the state after them.
+    fn plays(&mut self, rt: &HostRuntime, moves: &[Move]) -> Result<()> {
+        for &next in moves {
+            self.does(rt, next)?;
+        }
+        print!(rt; "{}", self.seen()?)?;
+        Ok(())
+    }
+
     /// Makes the next move, and again if it was out of memory.
     fn does(&mut self, rt: &HostRuntime, next: Move) -> Result<()> {
-        let Some(event) = next.event(self.alloc)? else {
-            let file = self.file()?;
-            println!(rt; "{file}")?;
-            return Ok(());
-        };
         let before = self.seen()?;
-        announce(rt, &next.words(self.alloc)?)?;
-        let answer = self.world.apply(event);
-        has_returned(rt)?;
-        match answer {
-            Err(WorldFault::Memory) => {
-                was_refused(rt, &before, &self.seen()?)?;
-                self.does_again(rt, next)
+        let words = next.words(self.alloc)?;
+        match next.event(self.alloc)? {
+            Some(event) => {
+                announce(rt, &words)?;
+                let answer = self.world.apply(event);
+                has_returned(rt)?;
+                if answer == Err(WorldFault::Memory) {
+                    was_refused(rt, &before, &self.seen()?)?;
+                    return self.does_again(rt, next);
+                }
+                prints(rt, answer?)
             }
-            answer => prints(rt, answer?),
+            None => self.prints_file(rt),
         }
     }
 

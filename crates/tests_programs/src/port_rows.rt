@@ -1,5 +1,5 @@
-//! A server's table of transfers (RFC 1350, section 4), and its calls on requests. The answers to
-//! requests are shown by `tftp-play`, over the rows of tools/rows.
+//! A server's table of transfers (RFC 1350, section 4), and its calls on requests. What it answers to
+//! requests is tried by the scripts of tests/tftp_play.
 
 use crate::expect::{expect, expect_equal};
 use crate::served::Event::{Datagram, MayOpen, Request, Take};

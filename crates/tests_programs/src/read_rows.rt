@@ -1,5 +1,5 @@
 //! Reads in a world: what comes, byte by byte (RFC 1350, sections 2 and 6). Which datagrams go where
-//! is shown by `tftp-play`, over the rows of tools/rows.
+//! is tried by the scripts of tests/tftp_play.
 
 use crate::expect::{expect, expect_equal};
 use crate::stores::{counted_bytes, path};

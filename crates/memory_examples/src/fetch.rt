@@ -1,16 +1,16 @@
 //! A get in memory: a client's end and a server hand each other their datagrams, without a socket and
-//! without a clock. It is a proved loop over an end, for readers who write one of their own.
-#![tactic(auto)]
+//! without a clock. It is a proved loop over an end.
 
 ghost use Rattle.std.specs.Prelude.{◌≡◌, true, false, OnOk};
 ghost use Rattle.tftp_ends.specs.End.{is_complete, is_sender};
 
+use crate::{Fault, server_of};
 use std::alloc::Global;
-use std::process::ExitCode;
 use tftp_ends::{End, EndConfig, Endpoint};
-use tftp_file::{MemSink, Path, path_of};
+use tftp_file::MemSink;
 use tftp_negotiate::{Asked, Limits};
-use tftp_server::{Config, MemStore, Server};
+use tftp_server::Server;
+use tftp_store::MemStore;
 use tftp_wire::Mode;
 
 /// The name of the file, and its text: four blocks of 16 bytes, the last of them short.
@@ -38,42 +38,9 @@ const CLIENT: Endpoint = Endpoint {
 /// options.
 const MOST: usize = 16;
 
-/// Why the file was not fetched.
-#[derive(Clone, Copy)]
-enum Fault {
-    /// The request is not valid, or the server refuses it.
-    Refused,
-    /// An end has closed, or is out of memory.
-    Stopped,
-    /// The transfer is not complete after [`MOST`] datagrams.
-    Incomplete,
-}
-
-impl Fault {
-    fn text(self) -> &'static str {
-        match self {
-            Fault::Refused => "fetch_memory: refused",
-            Fault::Stopped => "fetch_memory: stopped",
-            Fault::Incomplete => "fetch_memory: not complete",
-        }
-    }
-}
-
-fn main(rt: HostRuntime) -> ExitCode {
-    match run(&rt) {
-        Ok(()) => ExitCode::SUCCESS,
-        Err(fault) => {
-            let _ = rt.eprintln(fault.text());
-            ExitCode::FAILURE
-        }
-    }
-}
-
 /// Gets the text, and prints it.
-fn run(rt: &HostRuntime) -> Result<(), Fault> {
-    let Ok(mut server) = server_of_text(rt.alloc()) else {
-        return Err(Fault::Refused);
-    };
+pub(crate) fn run(rt: &HostRuntime) -> Result<(), Fault> {
+    let mut server = server_of(rt.alloc(), NAME, TEXT.as_bytes())?;
     let mut sink = MemSink::new(rt.alloc(), 1_000, false);
     fetch(rt.alloc(), &mut server, &mut sink)?;
     let Ok(text) = std::str::from_utf8(sink.as_bytes()) else {
@@ -81,25 +48,6 @@ fn run(rt: &HostRuntime) -> Result<(), Fault> {
     };
     let _ = rt.print(text);
     Ok(())
-}
-
-/// A server of the text under its name.
-fn server_of_text(alloc: Global) -> Result<Server<MemStore>, Fault> {
-    let Ok(path) = path_of(alloc, NAME) else {
-        return Err(Fault::Refused);
-    };
-    let mut text = Vec::new(alloc);
-    let mut files: Vec<(Path, Vec<u8>)> = Vec::new(alloc);
-    if text.extend_from_slice(TEXT.as_bytes()).is_err() || files.push((path, text)).is_err() {
-        return Err(Fault::Stopped);
-    }
-    let Ok(store) = MemStore::new(alloc, files) else {
-        return Err(Fault::Stopped);
-    };
-    match Server::new(alloc, Config::default(), store) {
-        Ok(server) => Ok(server),
-        Err(_) => Err(Fault::Stopped),
-    }
 }
 
 /// Asks the server for the file in blocks of 16 bytes, and stores it in the sink.

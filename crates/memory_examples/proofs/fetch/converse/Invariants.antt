@@ -1,7 +1,7 @@
 -- The end receives.
 use Rattle.std.proofs.Common.{◌≡◌, false}
 use Rattle.tftp_ends.specs.End.{is_sender}
-use Rattle.fetch_memory.proofs.converse.Given as goal
+use Rattle.memory_examples.proofs.fetch.converse.Given as goal
 
 abbrev pub invariant-loop : goal.invariant-loop
 invariant-loop l = is_sender l.end.role.side ≡ false
