@@ -9,7 +9,6 @@ use Rattle.tftp_wire.specs.declared.options.RawOption.{RawOption}
 use Rattle.tftp_wire.specs.declared.packet.Packet.TheVariants.{Read, Write, Data, Ack, Error, Oack}
 use Rattle.tftp_wire.specs.declared.packet.Request.{Request}
 use Rattle.tftp_wire.specs.declared.fault.PacketFaultKind.{PacketFaultKind}
-use Rattle.tftp_wire.specs.declared.fault.PacketFaultKind.TheVariants as kinds
 use Rattle.tftp_wire.specs.Datagram.{fault_line}
 use Rattle.tftp_wire.specs.Faults.{kind_name}
 use Rattle.tftp_wire.specs.Line.{line, option_words, shown, shown_byte, shown_message_byte, is_plain}
@@ -48,7 +47,7 @@ pub read_fits : (r : Request) → length (line (Read r)) ≤ 3 * length (canonic
 read_fits r = simp length-append (omega (arith, shown_fits r.name, mode_fits r.mode, options_fit r.options))
 
 -- a request to write
-pub write_fits : (r : Request) → length (line (Write r)) ≤ 3 * length (canonical (Write r)) + 40
+pub write_fits : (r : Request) → length (line (Write r)) ≤ 3 * length (canonical (Read r)) + 40
 write_fits r = simp length-append (omega (arith, shown_fits r.name, mode_fits r.mode, options_fit r.options))
 
 -- a DATA
@@ -68,13 +67,13 @@ ack_fits block b = search (rules, length-append, length-decimal-le)
 
 -- an ERROR
 pub error_fits : (code : ℕ) (text : List ℕ) → code < 2 ^ 16
-    → length (line (Error code text)) ≤ 3 * length (canonical (Error code text)) + 40
+    → length (line (Error code text)) ≤ 3 * length text + 40
 error_fits code text b =
     simp length-append
     (omega (arith, message_fits text, length-decimal-le 5 code (omega arith) (omega arith) (omega arith)))
 
 -- an OACK
-pub oack_fits : (os : List RawOption) → length (line (Oack os)) ≤ 3 * length (canonical (Oack os)) + 40
+pub oack_fits : (os : List RawOption) → length (line (Oack os)) ≤ 3 * length (options_bytes os) + 40
 oack_fits os = simp length-append (omega (arith, options_fit os))
 
 name_fits : (kind : PacketFaultKind) → length (kind_name kind) ≤ 12

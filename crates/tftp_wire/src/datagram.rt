@@ -5,7 +5,6 @@ ghost use Rattle.std.specs.String.{string_bytes};
 ghost use Rattle.tftp_wire.specs.Datagram.{datagram_shown, fault_line};
 ghost use Rattle.tftp_wire.specs.Faults.{out_of_memory};
 ghost use Rattle.tftp_wire.specs.Reading.{first_fault};
-ghost use Rattle.tftp_wire.specs.Room.{HasRoom, Puts};
 
 use crate::fault::{PacketFault, PacketFaultKind};
 use crate::laws;
@@ -47,16 +46,9 @@ fn show_fault(kind: PacketFaultKind, at: usize, out: &mut String) -> Result<(), 
         (e ≡ out_of_memory) × (string_bytes out.new ≡ string_bytes out.old)) }
 {
     out.reserve(FAULT_LINE)?;
-    put_fault(out, kind, at);
-    Ok(())
-}
-
-fn put_fault(out: &mut String, kind: PacketFaultKind, at: usize)
-    requires { HasRoom (fault_line kind at) out.old }
-    ensures { Puts (fault_line kind at) out.old out.new }
-{
     put_str(out, "fault ");
     put_str(out, kind.name());
     put_str(out, " ");
     put_number(out, at);
+    Ok(())
 }

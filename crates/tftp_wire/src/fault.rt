@@ -4,46 +4,35 @@ ghost use Rattle.std.specs.Prelude.{◌≡◌};
 ghost use Rattle.tftp_wire.specs.Faults.{kind_name, kind_number, out_of_memory};
 
 use std::alloc::AllocError;
+use std::fmt;
 use thiserror::Error;
 
 /// A fault of a datagram, or out of memory.
 #[derive(Clone, Copy, Debug, PartialEq, Eq, Error)]
 pub enum PacketFaultKind {
     /// The datagram ends before its opcode or its number does.
-    #[error("the datagram is too short")]
     Short = 1,
     /// The opcode is not 1 to 6.
-    #[error("the opcode is unknown")]
     Opcode = 2,
     /// A text has no zero byte after it.
-    #[error("a text has no zero byte after it")]
     Unterminated = 3,
     /// The file name is empty.
-    #[error("the file name is empty")]
     EmptyName = 4,
     /// The mode is neither `netascii` nor `octet`.
-    #[error("the mode is neither netascii nor octet")]
     Mode = 5,
     /// The datagram ends after an option's name.
-    #[error("an option has no value")]
     NoValue = 6,
     /// An option's name is empty.
-    #[error("an option has no name")]
     EmptyOption = 7,
     /// Bytes follow the packet.
-    #[error("bytes stand after the packet")]
     Trailing = 8,
     /// The datagram is longer than the maximum of its kind.
-    #[error("the datagram is too long")]
     TooLong = 9,
     /// A DATA has the block number 0.
-    #[error("a DATA has the number 0")]
     BlockZero = 10,
     /// An OACK holds no option.
-    #[error("an OACK holds no option")]
     EmptyOack = 11,
     /// Out of memory; the bytes are not at fault.
-    #[error("out of memory")]
     Memory = 12,
 }
 
@@ -73,6 +62,26 @@ impl PacketFaultKind {
             PacketFaultKind::EmptyOack => "EmptyOack",
             PacketFaultKind::Memory => "Memory",
         }
+    }
+}
+
+impl fmt::Display for PacketFaultKind {
+    // One call for all kinds: a message on each variant would be a call of its own.
+    fn fmt<W: fmt::Write>(&self, f: &mut fmt::Formatter<W>) -> fmt::Result {
+        f.write_str(match self {
+            PacketFaultKind::Short => "the datagram is too short",
+            PacketFaultKind::Opcode => "the opcode is unknown",
+            PacketFaultKind::Unterminated => "a text has no zero byte after it",
+            PacketFaultKind::EmptyName => "the file name is empty",
+            PacketFaultKind::Mode => "the mode is neither netascii nor octet",
+            PacketFaultKind::NoValue => "an option has no value",
+            PacketFaultKind::EmptyOption => "an option has no name",
+            PacketFaultKind::Trailing => "bytes stand after the packet",
+            PacketFaultKind::TooLong => "the datagram is too long",
+            PacketFaultKind::BlockZero => "a DATA has the number 0",
+            PacketFaultKind::EmptyOack => "an OACK holds no option",
+            PacketFaultKind::Memory => "out of memory",
+        })
     }
 }
 

@@ -19,7 +19,7 @@ use crate::fault::PacketFault;
 use crate::mode::Mode;
 use crate::options::{OptionRef, OptionsRef, RawOption};
 use crate::packet::{Packet, PacketRef};
-use crate::writer::{canonical_len, canonical_len_ref};
+use crate::writer::{options_len, request_len, request_len_ref};
 use itoa::Buffer;
 
 /// The bytes that a line has at most, beyond three for each byte of the packet.
@@ -57,8 +57,8 @@ fn line_room(packet: &Packet) -> usize
     ensures { min (length (line packet.now)) (2 ^ 64 - 1) ≤ result }
 {
     match packet {
-        Packet::Read(_) => shown_room(canonical_len(packet)),
-        Packet::Write(_) => shown_room(canonical_len(packet)),
+        Packet::Read(request) => shown_room(request_len(request)),
+        Packet::Write(request) => shown_room(request_len(request)),
         Packet::Data { block, bytes } => {
             let (_block, _len) = (*block, bytes.as_slice().len());
             WORDS
@@ -67,11 +67,11 @@ fn line_room(packet: &Packet) -> usize
             let _block = *block;
             WORDS
         }
-        Packet::Error { code, text: _ } => {
+        Packet::Error { code, text } => {
             let _code = *code;
-            shown_room(canonical_len(packet))
+            shown_room(text.as_slice().len())
         }
-        Packet::Oack(_) => shown_room(canonical_len(packet)),
+        Packet::Oack(options) => shown_room(options_len(options.as_slice())),
     }
 }
 
@@ -80,8 +80,8 @@ fn line_room_ref(packet: &PacketRef<'_>) -> usize
     ensures { min (length (line (owned packet.now))) (2 ^ 64 - 1) ≤ result }
 {
     match packet {
-        PacketRef::Read(_) => shown_room(canonical_len_ref(packet)),
-        PacketRef::Write(_) => shown_room(canonical_len_ref(packet)),
+        PacketRef::Read(request) => shown_room(request_len_ref(request)),
+        PacketRef::Write(request) => shown_room(request_len_ref(request)),
         PacketRef::Data { block, bytes } => {
             let (_block, _len) = (*block, bytes.len());
             WORDS
@@ -90,15 +90,15 @@ fn line_room_ref(packet: &PacketRef<'_>) -> usize
             let _block = *block;
             WORDS
         }
-        PacketRef::Error { code, text: _ } => {
+        PacketRef::Error { code, text } => {
             let _code = *code;
-            shown_room(canonical_len_ref(packet))
+            shown_room(text.len())
         }
-        PacketRef::Oack(_) => shown_room(canonical_len_ref(packet)),
+        PacketRef::Oack(options) => shown_room(options.bytes_len()),
     }
 }
 
-/// The capacity for the line of a packet of `len` bytes.
+/// The capacity for a line that shows `len` bytes.
 fn shown_room(len: usize) -> usize
     ensures { result ≡ min (3 * len + WORDS) (2 ^ 64 - 1) }
 {
@@ -111,13 +111,11 @@ fn put_packet(out: &mut String, packet: &Packet)
 {
     match packet {
         Packet::Read(request) => {
-            put_str(out, "RRQ ");
-            put_name_and_mode(out, request.name.as_slice(), request.mode);
+            put_name_and_mode(out, "RRQ ", request.name.as_slice(), request.mode);
             put_options(out, request.options.as_slice());
         }
         Packet::Write(request) => {
-            put_str(out, "WRQ ");
-            put_name_and_mode(out, request.name.as_slice(), request.mode);
+            put_name_and_mode(out, "WRQ ", request.name.as_slice(), request.mode);
             put_options(out, request.options.as_slice());
         }
         Packet::Data { block, bytes } => put_data(out, *block, bytes.as_slice()),
@@ -136,13 +134,11 @@ fn put_packet_ref(out: &mut String, packet: &PacketRef<'_>)
 {
     match packet {
         PacketRef::Read(request) => {
-            put_str(out, "RRQ ");
-            put_name_and_mode(out, request.name, request.mode);
+            put_name_and_mode(out, "RRQ ", request.name, request.mode);
             put_options_ref(out, &request.options);
         }
         PacketRef::Write(request) => {
-            put_str(out, "WRQ ");
-            put_name_and_mode(out, request.name, request.mode);
+            put_name_and_mode(out, "WRQ ", request.name, request.mode);
             put_options_ref(out, &request.options);
         }
         PacketRef::Data { block, bytes } => put_data(out, *block, bytes),
@@ -184,10 +180,12 @@ fn put_error(out: &mut String, code: u16, text: &[u8])
     put_str(out, ")");
 }
 
-fn put_name_and_mode(out: &mut String, name: &[u8], mode: Mode)
-    requires { HasRoom (shown name.now ++ (32 ∷ mode_word mode)) out.old }
-    ensures { Puts (shown name.now ++ (32 ∷ mode_word mode)) out.old out.new }
+/// The words of a request before its options. The first of them, with its space, is given.
+fn put_name_and_mode(out: &mut String, first: &str, name: &[u8], mode: Mode)
+    requires { HasRoom (first.now ++ shown name.now ++ (32 ∷ mode_word mode)) out.old }
+    ensures { Puts (first.now ++ shown name.now ++ (32 ∷ mode_word mode)) out.old out.new }
 {
+    put_str(out, first);
     put_shown(out, name);
     put_str(out, " ");
     put_str(out, mode.word());

@@ -71,7 +71,9 @@ fn read_request(bytes: &[u8]) -> Result<RequestRef<'_>, PacketFault>
     }
     let start = bytes.len() - after.len();
     let (word, rest) = read_text(after, start)?;
-    let mode = mode_of(word).ok_or(fault_at(PacketFaultKind::Mode, start))?;
+    let Some(mode) = mode_of(word) else {
+        return Err(fault_at(PacketFaultKind::Mode, start));
+    };
     let options = read_options(rest, bytes.len() - rest.len())?;
     Ok(RequestRef {
         name,

@@ -3,7 +3,7 @@
 ghost use Rattle.std.specs.Prelude.{◌≡◌, ◌≤◌, ◌+◌, ◌-◌, ◌^◌, ◌++◌, ◌↔◌, ◌≢◌, List, [], length, min};
 ghost use Rattle.std.specs.Prelude.{OnOk, IfErr, IsTrue, vec_len, vec_capacity, ℕ};
 ghost use Rattle.std.specs.List.{AllByRecursion};
-ghost use Rattle.tftp_wire.specs.Borrowed.{owned, owned_request};
+ghost use Rattle.tftp_wire.specs.Borrowed.{owned_request};
 ghost use Rattle.tftp_wire.specs.Faults.{out_of_memory};
 ghost use Rattle.tftp_wire.specs.Options.{IsOption, options_bytes};
 ghost use Rattle.tftp_wire.specs.Spelling.{IsValid, IsRequest, canonical};
@@ -16,7 +16,7 @@ use crate::append::{
 use crate::fault::PacketFault;
 use crate::limits::{MAX_BLOCK, MAX_REQUEST};
 use crate::options::RawOption;
-use crate::packet::{Packet, PacketRef, Request, RequestRef};
+use crate::packet::{Packet, Request, RequestRef};
 use crate::text::is_text;
 
 /// Whether the packet can be encoded: its texts contain no zero byte, its names are not empty, the
@@ -65,7 +65,7 @@ fn is_option(option: &RawOption) -> bool
 }
 
 /// The length of the packet in bytes, saturated at the greatest `usize`.
-pub(crate) fn canonical_len(packet: &Packet) -> usize
+fn canonical_len(packet: &Packet) -> usize
     ensures { result ≡ min (length (canonical packet.now)) (2 ^ 64 - 1) }
 {
     match packet {
@@ -78,21 +78,8 @@ pub(crate) fn canonical_len(packet: &Packet) -> usize
     }
 }
 
-/// As [`canonical_len`], for a packet that borrows its bytes.
-pub(crate) fn canonical_len_ref(packet: &PacketRef<'_>) -> usize
-    ensures { result ≡ min (length (canonical (owned packet.now))) (2 ^ 64 - 1) }
-{
-    match packet {
-        PacketRef::Read(request) => request_len_ref(request),
-        PacketRef::Write(request) => request_len_ref(request),
-        PacketRef::Data { block: _, bytes } => bytes.len().saturating_add(4),
-        PacketRef::Ack { block: _ } => 4,
-        PacketRef::Error { code: _, text } => text.len().saturating_add(5),
-        PacketRef::Oack(options) => options.bytes_len().saturating_add(2),
-    }
-}
-
-fn request_len_ref(request: &RequestRef<'_>) -> usize
+/// The length of a request in bytes, saturated at the greatest `usize`.
+pub(crate) fn request_len_ref(request: &RequestRef<'_>) -> usize
     ensures { result ≡ min (length (canonical (Read (owned_request request.now)))) (2 ^ 64 - 1) }
 {
     request
@@ -103,7 +90,8 @@ fn request_len_ref(request: &RequestRef<'_>) -> usize
         .saturating_add(4)
 }
 
-fn request_len(request: &Request) -> usize
+/// As [`request_len_ref`], for a request that owns its bytes.
+pub(crate) fn request_len(request: &Request) -> usize
     ensures { result ≡ min (length (canonical (Read request.now))) (2 ^ 64 - 1) }
 {
     options_len(request.options.as_slice())
@@ -112,7 +100,8 @@ fn request_len(request: &Request) -> usize
         .saturating_add(4)
 }
 
-fn options_len(options: &[RawOption]) -> usize
+/// The length of options in bytes, saturated at the greatest `usize`.
+pub(crate) fn options_len(options: &[RawOption]) -> usize
     ensures { result ≡ min (length (options_bytes options.now)) (2 ^ 64 - 1) }
 {
     let mut len = 0usize;

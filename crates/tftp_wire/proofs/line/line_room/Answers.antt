@@ -1,6 +1,5 @@
 -- A line has at most three bytes for each byte of its packet, and forty.
 use Rattle.std.proofs.Common.{arith, rules}
-use Rattle.tftp_wire.specs.Line.{line}
 use Rattle.tftp_wire.proofs.LineLemmas.{read_fits, write_fits, data_fits, ack_fits, error_fits, oack_fits}
 use Rattle.tftp_wire.proofs.line.line_room.Goals as goal
 

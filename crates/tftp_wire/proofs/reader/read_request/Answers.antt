@@ -11,7 +11,7 @@ returns-in_err-options c = search (rules, err_from_is_err_and, request_skipped, 
 pub returns : goal.returns
 returns c =
     let name = rw c.split_at.ensures.back at c.in_ok-name.ensures in
-    let mode = sym c.mode_of.ensures ∙ c.in_ok-mode.ensures.ok_part in (
+    let mode = sym c.mode_of.ensures ∙ c.in-Some.is in (
       request_skipped _ _ _ _ _ _ c.requires (omega arith) (length-drop 2 _) name
           (eqb-false _ _ (sym c.if-is_empty.ensures)) c.in_ok-word.ensures mode
           ∙ c.in_ok-options.ensures.0,
