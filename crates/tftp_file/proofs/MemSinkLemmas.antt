@@ -1,5 +1,5 @@
 -- The content of a full sink in memory. For `MemSinkSink::append`.
-use Rattle.std.proofs.Common.{ℕ, ◌+◌, Bool, false, List, ◌++◌, take, drop, Some, refl}
+use Rattle.std.proofs.Common.{ℕ, Bool, false, List, ◌++◌, take, drop, Some, refl}
 use Rattle.std.proofs.lemmas.List.{take-append-drop}
 use Rattle.tftp_file.specs.Sink.{KeptPrefix}
 

@@ -1,4 +1,4 @@
--- Netascii is at most twice as long as the host's bytes. For `give` and Streaming.
+-- Netascii is at most twice as long as the host's bytes. For `MemSource::fill` and Streaming.
 use Rattle.std.proofs.Common.{ℕ, ◌+◌, ◌*◌, ◌≤◌, List, length, Option, arith, rules}
 use Rattle.std.proofs.lemmas.List.Sums.{count_by-le-length}
 use Rattle.tftp_file.specs.Netascii.{netascii_text}

@@ -1,13 +1,12 @@
 //! Encodes host bytes as a given number of wire bytes, even if that splits a pair.
 
 ghost use Rattle.std.specs.Prelude.{◌≡◌, ◌+◌, ◌≤◌, ◌++◌, ◌∷◌, length, drop, min, option_to_list};
-ghost use Rattle.std.specs.Prelude.{Some, vec_len, vec_capacity, IfNone, IfOk, OnErr, []};
+ghost use Rattle.std.specs.Prelude.{Some, vec_len, vec_capacity, IfNone, []};
 ghost use Rattle.tftp_file.specs.Netascii.{wire_byte};
-ghost use Rattle.tftp_file.specs.Encoding.{netascii_left, text_left};
+ghost use Rattle.tftp_file.specs.Encoding.{netascii_left};
 ghost use Rattle.tftp_file.specs.Source.{Moved};
 
 use crate::lines::{CR, LF, NUL};
-use std::alloc::AllocError;
 use tftp_wire::Mode;
 
 /// The encoding of a source, with the byte of a split pair that it holds back.
@@ -20,17 +19,6 @@ pub enum Encoding {
         /// That byte.
         held: Option<u8>,
     },
-}
-
-/// The result of encoding a piece.
-#[derive(Drop)]
-pub struct Given {
-    /// The number of wire bytes appended.
-    pub count: usize,
-    /// The number of host bytes consumed.
-    pub taken: usize,
-    /// The encoding of the rest.
-    pub encoding: Encoding,
 }
 
 /// The result of encoding a piece in netascii.
@@ -106,41 +94,4 @@ pub fn encode(bytes: &[u8], held: Option<u8>, want: usize, out: &mut Vec<u8>) ->
         count += 1;
     }
     Encoded { count, taken, held }
-}
-
-/// Appends the next `want` bytes of wire text, or as many as there are. It reserves capacity first.
-pub fn give(
-    bytes: &[u8],
-    encoding: Encoding,
-    want: usize,
-    out: &mut Vec<u8>,
-) -> Result<Given, AllocError>
-    ensures within { IfOk result (λ given. given.taken ≤ length bytes.now) }
-    ensures moves { IfOk result (λ given. Moved (text_left encoding bytes.now)
-        (Some (text_left given.encoding (drop given.taken bytes.now)))
-        want out.old.items out.new.items given.count) }
-    ensures err { OnErr result (out.new.items ≡ out.old.items) }
-    ensures capacity { vec_capacity out.old ≤ vec_capacity out.new }
-{
-    match encoding {
-        Encoding::Octet => {
-            let count = want.min(bytes.len());
-            out.extend_from_slice(&bytes[..count])?;
-            Ok(Given {
-                count,
-                taken: count,
-                encoding,
-            })
-        }
-        Encoding::Netascii { held } => {
-            let most = bytes.len().saturating_mul(2).saturating_add(1);
-            out.reserve(want.min(most))?;
-            let Encoded { count, taken, held } = encode(bytes, held, want, out);
-            Ok(Given {
-                count,
-                taken,
-                encoding: Encoding::Netascii { held },
-            })
-        }
-    }
 }

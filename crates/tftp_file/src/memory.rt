@@ -4,7 +4,7 @@ ghost use Rattle.std.specs.Prelude.{◌≡◌, ◌≤◌, length, IfErr, IfOk};
 ghost use Rattle.tftp_file.specs.Netascii.{wire_text};
 ghost use Rattle.tftp_file.specs.Memory.{new_mem_sink, with_armed};
 
-use crate::encoding::{Encoding, give};
+use crate::encoding::{Encoding, encode};
 use crate::{FileFault, Sink, Source, StoreFault};
 use bytes::Bytes as SharedBytes;
 use std::alloc::Global;
@@ -66,10 +66,22 @@ impl Source for MemSource {
     ghost unmoved = { λ _. tt };
 
     fn fill(&mut self, want: usize, out: &mut Vec<u8>) -> Result<usize, FileFault> {
-        let given = give(self.bytes.as_slice(), self.encoding, want, out)?;
-        self.bytes.advance(given.taken);
-        self.encoding = given.encoding;
-        Ok(given.count)
+        match &mut self.encoding {
+            Encoding::Octet => {
+                let count = want.min(self.bytes.len());
+                out.extend_from_slice(&self.bytes.as_slice()[..count])?;
+                self.bytes.advance(count);
+                Ok(count)
+            }
+            Encoding::Netascii { held } => {
+                let most = self.bytes.len().saturating_mul(2).saturating_add(1);
+                out.reserve(want.min(most))?;
+                let encoded = encode(self.bytes.as_slice(), *held, want, out);
+                self.bytes.advance(encoded.taken);
+                *held = encoded.held;
+                Ok(encoded.count)
+            }
+        }
     }
 }
 

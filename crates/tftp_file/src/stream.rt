@@ -3,7 +3,6 @@
 ghost use Rattle.std.specs.Prelude.{◌≡◌, ◌≤◌, ◌<◌, ◌+◌, ◌*◌, false, None, length, take, drop};
 ghost use Rattle.std.specs.Prelude.{vec_len, vec_capacity, option_map, Ok, IfOk, IfErr, OnErr};
 ghost use Rattle.std.specs.Prelude.{is_ok, ◌||◌};
-ghost use Rattle.std.specs.Io.{ReadsAtMost};
 ghost use Rattle.std.specs.Io.KnownBytes.{Consumes, IsAtEnd};
 ghost use Rattle.tftp_file.specs.Netascii.{wire_text};
 ghost use Rattle.tftp_file.specs.Encoding.{netascii_left, encoding_of};
@@ -99,20 +98,6 @@ impl<R: Read> Source for ReadSource<R> {
     }
 }
 
-fn read_once<R: Read>(reader: &mut R, buffer: &mut [u8]) -> Result<usize, FileFault>
-    ensures bound { ReadsAtMost result buffer.new }
-    ensures bytes { IfOk result (λ n. Consumes (R.remaining reader.old) (R.remaining reader.new)
-        (take n buffer.new)) }
-    ensures end { IfOk result (λ n. n ≡ 0 → 0 < length buffer.new
-        → IsAtEnd (R.remaining reader.new)) }
-    ensures fault { IfErr result (λ fault. fault ≡ FileFault.Read) }
-{
-    match reader.read(buffer) {
-        Ok(count) => Ok(count),
-        Err(_) => Err(FileFault::Read),
-    }
-}
-
 fn read_at<R: Read>(reader: &mut R, buffer: &mut [u8], at: usize) -> Result<usize, FileFault>
     requires { at ≤ length buffer.old }
     ensures front { take at buffer.new ≡ take at buffer.old }
@@ -123,7 +108,10 @@ fn read_at<R: Read>(reader: &mut R, buffer: &mut [u8], at: usize) -> Result<usiz
         → IsAtEnd (R.remaining reader.new)) }
     ensures fault { IfErr result (λ fault. fault ≡ FileFault.Read) }
 {
-    read_once(reader, &mut buffer[at..])
+    match reader.read(&mut buffer[at..]) {
+        Ok(count) => Ok(count),
+        Err(_) => Err(FileFault::Read),
+    }
 }
 
 fn read_from<R: Read>(reader: &mut R, buffer: &mut [u8], start: usize) -> Result<usize, FileFault>
@@ -182,7 +170,7 @@ fn read_encoded<R: Read>(
     ensures err { OnErr result (out.new.items ≡ out.old.items) }
     ensures fault { IfErr result (λ fault. fault ≡ FileFault.Read) }
 {
-    let count = read_once(reader, chunk)?;
+    let count = read_at(reader, chunk, 0)?;
     Ok(encode(&chunk[..count], None, room, out))
 }
 
