@@ -69,8 +69,10 @@ impl NetEncoder {
         ensures memory { IfErr result (λ fault. fault ≡ Memory) }
         ensures err { OnErr result (out.new.items ≡ out.old.items) }
     {
-        let room = piece.len().checked_add(line_byte_count(piece));
-        out.reserve(room.ok_or(NetFault::Memory)?)?;
+        let Some(room) = piece.len().checked_add(line_byte_count(piece)) else {
+            return Err(NetFault::Memory);
+        };
+        out.reserve(room)?;
         append_wire(piece, out);
         Ok(())
     }

@@ -5,8 +5,6 @@ use Rattle.tftp_wire.specs.declared.mode.Mode.{Mode}
 use Rattle.tftp_negotiate.specs.declared.asked.Asked.{Asked}
 use Rattle.tftp_negotiate.specs.declared.known.Kind.{Kind}
 use Rattle.tftp_negotiate.specs.declared.limits.Limits.{Limits}
-use Rattle.tftp_negotiate.specs.declared.name.Name.{Name}
-use Rattle.tftp_negotiate.specs.declared.name.Name.TheVariants as name
 use Rattle.tftp_negotiate.specs.declared.policy.Policy.{Policy}
 use Rattle.tftp_negotiate.specs.Ranges.{IsBlockSize, is_in, block_sizes}
 use Rattle.tftp_negotiate.specs.Asked.{IsAskable}

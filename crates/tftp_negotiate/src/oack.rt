@@ -123,7 +123,9 @@ pub(crate) fn taken(
 fn taken_blksize(asked: Option<u16>, number: Option<u64>) -> Result<Option<Known>, Refusal>
     ensures { result ≡ taken_blksize asked number }
 {
-    let most = asked.ok_or(Refusal::NotAsked)?;
+    let Some(most) = asked else {
+        return Err(Refusal::NotAsked);
+    };
     match number {
         Some(n) if u64::from(MIN_BLOCK) <= n && n <= u64::from(most) => {
             Ok(Some(Known::Blksize(n as u16)))
@@ -136,7 +138,9 @@ fn taken_blksize(asked: Option<u16>, number: Option<u64>) -> Result<Option<Known
 fn taken_timeout(asked: Option<u8>, number: Option<u64>) -> Result<Option<Known>, Refusal>
     ensures { result ≡ taken_timeout asked number }
 {
-    let seconds = asked.ok_or(Refusal::NotAsked)?;
+    let Some(seconds) = asked else {
+        return Err(Refusal::NotAsked);
+    };
     match number {
         Some(n) if n == u64::from(seconds) => Ok(Some(Known::Timeout(seconds))),
         _ => Err(Refusal::BadValue),
@@ -153,8 +157,12 @@ fn taken_tsize(
 ) -> Result<Option<Known>, Refusal>
     ensures { result ≡ taken_tsize asked kind limit number }
 {
-    let length = asked.ok_or(Refusal::NotAsked)?;
-    let number = number.ok_or(Refusal::BadValue)?;
+    let Some(length) = asked else {
+        return Err(Refusal::NotAsked);
+    };
+    let Some(number) = number else {
+        return Err(Refusal::BadValue);
+    };
     match kind {
         Kind::Read if number <= limit => Ok(Some(Known::Tsize(number))),
         Kind::Read => Err(Refusal::TooLarge),
