@@ -6,8 +6,6 @@ ghost use Rattle.tftp_negotiate.specs.Agreed.{IsAgreement};
 ghost use Rattle.tftp_negotiate.specs.Agreement.{agreement, taken_option, taken_blksize};
 ghost use Rattle.tftp_negotiate.specs.Agreement.{taken_timeout, taken_tsize, stated_tsize};
 ghost use Rattle.tftp_negotiate.specs.Asked.{IsAskable};
-ghost use Rattle.tftp_negotiate.specs.Negotiation.{is_name};
-ghost use Rattle.tftp_negotiate.specs.declared.name.Name.TheVariants as name;
 
 use crate::agreed::Agreed;
 use crate::asked::Asked;
@@ -80,23 +78,11 @@ pub fn stated_tsize(options: &OptionsRef<'_>) -> Option<u64>
     ensures { result ≡ stated_tsize options.now }
 {
     for option in options {
-        if is_tsize(Name::of(option.name)) {
+        if Name::of(option.name) == Some(Name::Tsize) {
             return number_of(option.value);
         }
     }
     None
-}
-
-/// Whether the name is `tsize`.
-fn is_tsize(known: Option<Name>) -> bool
-    ensures { result ≡ is_name name.Tsize known }
-{
-    match known {
-        None => false,
-        Some(Name::Blksize) => false,
-        Some(Name::Timeout) => false,
-        Some(Name::Tsize) => true,
-    }
 }
 
 /// The agreed option, or its refusal.
