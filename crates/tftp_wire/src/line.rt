@@ -13,7 +13,7 @@ ghost use Rattle.tftp_wire.specs.Line.{line, option_words, shown, shown_byte, sh
 ghost use Rattle.tftp_wire.specs.Line.{percent, hex_digit as hex};
 ghost use Rattle.tftp_wire.specs.Modes.{mode_word};
 ghost use Rattle.tftp_wire.specs.Room.{HasRoom, Puts};
-ghost use Rattle.tftp_wire.specs.declared.packet.Packet.TheVariants.{Data, Ack, Error};
+ghost use Rattle.tftp_wire.specs.declared.packet.Packet.TheVariants.{Data, Error};
 
 use crate::fault::PacketFault;
 use crate::mode::Mode;
@@ -119,7 +119,10 @@ fn put_packet(out: &mut String, packet: &Packet)
             put_options(out, request.options.as_slice());
         }
         Packet::Data { block, bytes } => put_data(out, *block, bytes.as_slice()),
-        Packet::Ack { block } => put_ack(out, *block),
+        Packet::Ack { block } => {
+            put_str(out, "ACK ");
+            put_number(out, usize::from(*block));
+        }
         Packet::Error { code, text } => put_error(out, *code, text.as_slice()),
         Packet::Oack(options) => {
             put_str(out, "OACK");
@@ -142,7 +145,10 @@ fn put_packet_ref(out: &mut String, packet: &PacketRef<'_>)
             put_options_ref(out, &request.options);
         }
         PacketRef::Data { block, bytes } => put_data(out, *block, bytes),
-        PacketRef::Ack { block } => put_ack(out, *block),
+        PacketRef::Ack { block } => {
+            put_str(out, "ACK ");
+            put_number(out, usize::from(*block));
+        }
         PacketRef::Error { code, text } => put_error(out, *code, text),
         PacketRef::Oack(options) => {
             put_str(out, "OACK");
@@ -159,14 +165,6 @@ fn put_data(out: &mut String, block: u16, bytes: &[u8])
     put_number(out, usize::from(block));
     put_str(out, " ");
     put_number(out, bytes.len());
-}
-
-fn put_ack(out: &mut String, block: u16)
-    requires { HasRoom (line (Ack block)) out.old }
-    ensures { Puts (line (Ack block)) out.old out.new }
-{
-    put_str(out, "ACK ");
-    put_number(out, usize::from(block));
 }
 
 fn put_error(out: &mut String, code: u16, text: &[u8])

@@ -33,27 +33,21 @@ impl<'a> PacketRef<'a> {
         ensures ok { IfOk result (λ p. p ≡ owned self.now) }
         ensures err { IfErr result (λ e. e ≡ out_of_memory) }
     {
-        Ok(copied(alloc, self)?)
+        Ok(match self {
+            PacketRef::Read(request) => Packet::Read(request.to_request(alloc)?),
+            PacketRef::Write(request) => Packet::Write(request.to_request(alloc)?),
+            PacketRef::Data { block, bytes } => Packet::Data {
+                block: *block,
+                bytes: Bytes::from_slice(alloc, bytes)?,
+            },
+            PacketRef::Ack { block } => Packet::Ack { block: *block },
+            PacketRef::Error { code, text } => Packet::Error {
+                code: *code,
+                text: Bytes::from_slice(alloc, text)?,
+            },
+            PacketRef::Oack(options) => Packet::Oack(options.to_options(alloc)?),
+        })
     }
-}
-
-fn copied(alloc: Global, packet: &PacketRef<'_>) -> Result<Packet, AllocError>
-    ensures { IfOk result (λ p. p ≡ owned packet.now) }
-{
-    Ok(match packet {
-        PacketRef::Read(request) => Packet::Read(request.to_request(alloc)?),
-        PacketRef::Write(request) => Packet::Write(request.to_request(alloc)?),
-        PacketRef::Data { block, bytes } => Packet::Data {
-            block: *block,
-            bytes: Bytes::from_slice(alloc, bytes)?,
-        },
-        PacketRef::Ack { block } => Packet::Ack { block: *block },
-        PacketRef::Error { code, text } => Packet::Error {
-            code: *code,
-            text: Bytes::from_slice(alloc, text)?,
-        },
-        PacketRef::Oack(options) => Packet::Oack(options.to_options(alloc)?),
-    })
 }
 
 impl<'a> RequestRef<'a> {
