@@ -36,6 +36,12 @@ pub some_between : (xs now : List ℕ) (at end : ℕ) → at < end → end ≤ l
     → take (end - at) (drop at xs) ≡ now → 0 < length now
 some_between xs now at end order within is = search (rules, length-take, length-drop)
 
+-- there are none
+pub none_between : (xs now : List ℕ) (at end : ℕ) → end ≤ at → take (end - at) (drop at xs) ≡ now → now ≡ []
+none_between xs now at end order is =
+    let none : end - at ≡ 0 = omega arith in
+    sym is ∙ ap (λ n. take n (drop at xs)) none
+
 -- the bytes from the first place on
 pub from_start : (items xs : List ℕ) (n : ℕ) → items ≡ xs → take (n - 0) (drop 0 items) ≡ take n xs
 from_start items xs n is = search rules

@@ -263,7 +263,8 @@ pub(crate) fn fill_from<F: Read>(
 }
 
 /// Moves some bytes of wire text, and returns how many: 0 at the end. The capacity of `out` is
-/// enough. In octet at least as many bytes as the buffer has space for bypass it.
+/// enough. In octet at least as many bytes as the buffer has space for bypass it. Else the bytes are
+/// from the buffer, which is filled if it is empty.
 fn give_some<F: Read>(
     file: &mut DiskFile<F>,
     buffer: &mut ReadBuffer,
@@ -284,27 +285,6 @@ fn give_some<F: Read>(
     if mode == Mode::Octet && buffer.len() == 0 && room >= buffer.capacity() {
         return read_into(file, room, out);
     }
-    give_buffered(file, buffer, mode, room, out)
-}
-
-/// The same from the buffer, which is filled if it is empty.
-fn give_buffered<F: Read>(
-    file: &mut DiskFile<F>,
-    buffer: &mut ReadBuffer,
-    mode: Mode,
-    room: usize,
-    out: &mut Vec<u8>,
-) -> io::Result<usize>
-    requires some { 0 < room }
-    requires room { vec_len out.old + room ≤ vec_capacity out.old }
-    ensures ok { IfOk result (Passes mode buffer.old buffer.new
-        file.old.trace.events file.new.trace.events out.old.items out.new.items) }
-    ensures bound { IfOk result (λ n. n ≤ room) }
-    ensures end { IfOk result (λ n. n ≡ 0 → IsAtEnd file.new.trace.events) }
-    ensures capacity { vec_capacity out.old ≤ vec_capacity out.new }
-    ensures err { OnErr result (out.new.items ≡ out.old.items) }
-    ensures failed { OnErr result (ReadsSome file.old.trace.events file.new.trace.events) }
-{
     match buffer.refill(file, mode) {
         Ok(()) => {
             let count = room.min(buffer.len());

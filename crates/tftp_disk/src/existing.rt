@@ -4,7 +4,7 @@ ghost use Rattle.std.specs.Prelude.{◌≡◌};
 ghost use Rattle.tftp_disk.specs.DiskFault.{is_replaced};
 
 /// What becomes of a file that has the name already when another is to get it.
-#[derive(Clone, Copy, Debug, PartialEq, Eq)]
+#[derive(Clone, Copy, PartialEq, Eq)]
 pub enum Existing {
     /// It stays, and the other is refused.
     Refused,

@@ -93,43 +93,25 @@ impl ReadBuffer {
             return Ok(());
         }
         match mode {
-            Mode::Octet => self.refill_octet(file),
-            Mode::Netascii => self.refill_netascii(file),
-        }
-    }
-
-    /// The same in octet, where nothing is left.
-    fn refill_octet<F: Read>(&mut self, file: &mut DiskFile<F>) -> io::Result<()>
-        requires { self.old ≡ [] }
-        ensures ok { OnOk result (Refills Octet file.old.trace.events file.new.trace.events
-            self.old self.new) }
-        ensures err { OnErr result (ReadsSome file.old.trace.events file.new.trace.events) }
-    {
-        match file.read(self.text.as_mut_slice()) {
-            Ok(count) => {
+            Mode::Octet => match file.read(self.text.as_mut_slice()) {
+                Ok(count) => {
+                    self.at = 0;
+                    self.end = count;
+                    Ok(())
+                }
+                Err(error) => Err(error),
+            },
+            Mode::Netascii => {
                 self.at = 0;
-                self.end = count;
-                Ok(())
+                self.end = 0;
+                match read_lines(file, &mut self.bytes, &mut self.text) {
+                    Ok(()) => {
+                        self.end = self.text.len();
+                        Ok(())
+                    }
+                    Err(error) => Err(error),
+                }
             }
-            Err(error) => Err(error),
-        }
-    }
-
-    /// The same in netascii.
-    fn refill_netascii<F: Read>(&mut self, file: &mut DiskFile<F>) -> io::Result<()>
-        requires { self.old ≡ [] }
-        ensures ok { OnOk result (Refills Netascii file.old.trace.events
-            file.new.trace.events self.old self.new) }
-        ensures err { OnErr result (ReadsSome file.old.trace.events file.new.trace.events) }
-    {
-        self.at = 0;
-        self.end = 0;
-        match read_lines(file, &mut self.bytes, &mut self.text) {
-            Ok(()) => {
-                self.end = self.text.len();
-                Ok(())
-            }
-            Err(error) => Err(error),
         }
     }
 }

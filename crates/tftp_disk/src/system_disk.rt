@@ -125,9 +125,13 @@ impl<'a, R: LockFiles + Clock> Disk for SystemDisk<'a, R> {
         let locked = locked(self.files, made);
         let made = DiskFile::of(locked, &DiskEventRef::Created(path, &self.trace));
         self.trace.note(&DiskEventRef::Made(path, done(&made)));
-        let mut file = made?;
-        file.note(&DiskEventRef::Locked(path, Ok(())));
-        Ok(file)
+        match made {
+            Ok(mut file) => {
+                file.note(&DiskEventRef::Locked(path, Ok(())));
+                Ok(file)
+            }
+            Err(error) => Err(error),
+        }
     }
 
     fn lock(&mut self, path: &str) -> io::Result<DiskFile<R::File>> {
