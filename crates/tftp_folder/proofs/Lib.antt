@@ -2,6 +2,7 @@ pub mod ChangingLemmas
 mod ApartLemmas
 mod HeldLemmas
 mod InsideLemmas
+mod LeavesLemmas
 mod LockLemmas
 mod MakingLemmas
 mod NamingLemmas

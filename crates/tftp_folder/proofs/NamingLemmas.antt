@@ -3,7 +3,6 @@ use Rattle.std.proofs.Common.{◌≡◌, ◌∷◌, ℕ, Bool, true, false, List
 use Rattle.std.specs.String.{string_bytes}
 use Rattle.tftp_disk.specs.Changes.{changes, renames}
 use Rattle.tftp_disk.specs.DiskTrace.{DiskEvent, Done}
-use Rattle.std.specs.declared.io.ErrorKind.TheVariants as kinds
 use Rattle.tftp_disk.specs.DiskTrace.DiskEvent.{Removed}
 use Rattle.tftp_folder.specs.Commit.{LooksThenRenames, MayRemove}
 use Rattle.tftp_folder.specs.Draft.{LooksForOwn, NamesDraft, StaysDone, TakesBack}

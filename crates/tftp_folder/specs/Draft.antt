@@ -1,5 +1,5 @@
 -- A draft of a store over a folder, by the calls on its file (ours).
-use Rattle.std.specs.Prelude.{ℕ, ◌≡◌, ◌≢◌, ◌⊎◌, Bool, true, false, List, [], ◌∷◌, Option, Some, None, Ok}
+use Rattle.std.specs.Prelude.{ℕ, ◌≡◌, ◌≢◌, ◌⊎◌, Bool, true, false, List, [], ◌∷◌, Option, Some, None}
 use Rattle.std.specs.Prelude.{Err}
 use Rattle.std.specs.declared.io.Error.{Error}
 use Rattle.std.specs.String.{string_bytes}

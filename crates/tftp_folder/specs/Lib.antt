@@ -6,9 +6,11 @@ pub mod Draft
 pub mod Effects
 pub mod Held
 pub mod Inside
+pub mod Leaves
 pub mod Locks
 pub mod Looked
 pub mod Modes
+pub mod Naming
 pub mod Opened
 pub mod Placed
 pub mod Reached

@@ -8,8 +8,8 @@ ghost use Rattle.tftp_disk.specs.Changes.{changes};
 ghost use Rattle.tftp_disk.specs.DiskTrace.DiskEvent.{Looked, Opened, Examined};
 ghost use Rattle.tftp_disk.specs.Found.{is_same_file};
 ghost use Rattle.tftp_disk.specs.declared.found.Found.{Found};
-ghost use Rattle.tftp_folder.specs.Opened.{FindsAt, FollowsTo, LooksLast, IsStill, OpensAt, follows};
-ghost use Rattle.tftp_folder.specs.Placed.{placed};
+ghost use Rattle.tftp_folder.specs.Leaves.{OnlyLooks};
+ghost use Rattle.tftp_folder.specs.Opened.{FindsAt, FollowsTo, LooksLast, IsStill, OpensAt};
 ghost use Rattle.tftp_disk.specs.Given.{is_at_start};
 ghost use Rattle.tftp_folder.specs.Opened.{OpensSeen};
 ghost use Rattle.tftp_folder.specs.Inside.{IsInside, StaysInside};
@@ -104,9 +104,7 @@ impl ServedFolder {
         ensures path { IfOk result (λ location. location.path ≡ target) }
         ensures found { IfOk result (λ location. LooksLast (string_bytes target) location.found
             (L.log looks.new)) }
-        ensures looks { changes (L.log looks.new) ≡ changes (L.log looks.old) }
-        ensures placed { placed (L.log looks.new) ≡ placed (L.log looks.old) }
-        ensures follows { follows (L.log looks.new) ≡ follows (L.log looks.old) }
+        ensures looks { OnlyLooks (L.log looks.old) (L.log looks.new) }
         ensures inside { IsInside (string_bytes self.now.root) (string_bytes target)
             → StaysInside (string_bytes self.now.root) (L.log looks.old) (L.log looks.new) }
     {
@@ -141,9 +139,7 @@ impl ServedFolder {
         target: &str,
     ) -> Result<Above, StoreFault>
         ensures fault { IfErr result MayNotOpen }
-        ensures looks { changes (L.log looks.new) ≡ changes (L.log looks.old) }
-        ensures placed { placed (L.log looks.new) ≡ placed (L.log looks.old) }
-        ensures follows { follows (L.log looks.new) ≡ follows (L.log looks.old) }
+        ensures looks { OnlyLooks (L.log looks.old) (L.log looks.new) }
         ensures inside { IsInside (string_bytes self.now.root) target.now
             → StaysInside (string_bytes self.now.root) (L.log looks.old) (L.log looks.new) }
     {
@@ -361,9 +357,7 @@ impl ServedFolder {
     ) -> Result<DraftPlace, StoreFault>
         ensures fault { IfErr result (MayNotName (is_replaced existing)) }
         ensures place { IfOk result (λ place. place.path ≡ target) }
-        ensures looks { changes (D.log disk.new) ≡ changes (D.log disk.old) }
-        ensures placed { placed (D.log disk.new) ≡ placed (D.log disk.old) }
-        ensures follows { follows (D.log disk.new) ≡ follows (D.log disk.old) }
+        ensures looks { OnlyLooks (D.log disk.old) (D.log disk.new) }
         ensures inside { IsInside (string_bytes self.now.root) (string_bytes self.now.drafts)
             → IsInside (string_bytes self.now.root) (string_bytes target)
             → StaysInside (string_bytes self.now.root) (D.log disk.old) (D.log disk.new) }
@@ -394,7 +388,8 @@ impl ServedFolder {
         }
     }
 
-    /// Refuses a place with a link on its path, or with a file that is not to be replaced.
+    /// Refuses a place with a link on its path, or with a file that is not to be replaced: any, or one
+    /// that is not regular or that the server's user may not write.
     fn check_place<D: Disk>(
         &self,
         disk: &mut D,
@@ -402,9 +397,7 @@ impl ServedFolder {
         existing: Existing,
     ) -> Result<(), StoreFault>
         ensures fault { IfErr result (MayNotName (is_replaced existing)) }
-        ensures looks { changes (D.log disk.new) ≡ changes (D.log disk.old) }
-        ensures placed { placed (D.log disk.new) ≡ placed (D.log disk.old) }
-        ensures follows { follows (D.log disk.new) ≡ follows (D.log disk.old) }
+        ensures looks { OnlyLooks (D.log disk.old) (D.log disk.new) }
         ensures inside { IsInside (string_bytes self.now.root) (string_bytes location.now.path)
             → StaysInside (string_bytes self.now.root) (D.log disk.old) (D.log disk.new) }
     {
@@ -415,29 +408,12 @@ impl ServedFolder {
             return Err(self.refused(Reason::ThroughLink));
         }
         match &location.found {
-            Some(found) => self.may_replace(disk, location.path.as_str(), found),
+            Some(found) => match check_replaced(disk, location.path.as_str(), found) {
+                Ok(()) => Ok(()),
+                Err(NameFault::System(error)) => Err(self.write_refused(&error)),
+                Err(NameFault::Rule(reason)) => Err(self.refused(reason)),
+            },
             None => Ok(()),
-        }
-    }
-
-    /// Refuses to replace what is no regular file, or what the server's user may not write.
-    fn may_replace<D: Disk>(
-        &self,
-        disk: &mut D,
-        path: &str,
-        found: &Found,
-    ) -> Result<(), StoreFault>
-        ensures fault { IfErr result MayNotStore }
-        ensures looks { changes (D.log disk.new) ≡ changes (D.log disk.old) }
-        ensures placed { placed (D.log disk.new) ≡ placed (D.log disk.old) }
-        ensures follows { follows (D.log disk.new) ≡ follows (D.log disk.old) }
-        ensures inside { IsInside (string_bytes self.now.root) path.now
-            → StaysInside (string_bytes self.now.root) (D.log disk.old) (D.log disk.new) }
-    {
-        match check_replaced(disk, path, found) {
-            Ok(()) => Ok(()),
-            Err(NameFault::System(error)) => Err(self.write_refused(&error)),
-            Err(NameFault::Rule(reason)) => Err(self.refused(reason)),
         }
     }
 
@@ -449,9 +425,7 @@ impl ServedFolder {
         found: Option<FileId>,
     ) -> Result<FileId, StoreFault>
         ensures fault { IfErr result MayNotStore }
-        ensures looks { changes (L.log looks.new) ≡ changes (L.log looks.old) }
-        ensures placed { placed (L.log looks.new) ≡ placed (L.log looks.old) }
-        ensures follows { follows (L.log looks.new) ≡ follows (L.log looks.old) }
+        ensures looks { OnlyLooks (L.log looks.old) (L.log looks.new) }
         ensures inside { IsInside (string_bytes self.now.root) (string_bytes self.now.drafts)
             → StaysInside (string_bytes self.now.root) (L.log looks.old) (L.log looks.new) }
     {
@@ -471,9 +445,7 @@ impl ServedFolder {
         found: Option<FileId>,
     ) -> Result<FileId, StoreFault>
         ensures fault { IfErr result MayNotStore }
-        ensures looks { changes (L.log looks.new) ≡ changes (L.log looks.old) }
-        ensures placed { placed (L.log looks.new) ≡ placed (L.log looks.old) }
-        ensures follows { follows (L.log looks.new) ≡ follows (L.log looks.old) }
+        ensures looks { OnlyLooks (L.log looks.old) (L.log looks.new) }
         ensures inside { StaysInside (string_bytes self.now.root) (L.log looks.old)
             (L.log looks.new) }
     {
@@ -486,9 +458,7 @@ impl ServedFolder {
     /// The folder at a path, without a trailing slash.
     fn id_of<L: Looks>(&self, looks: &mut L, path: &str) -> Result<FileId, StoreFault>
         ensures fault { IfErr result MayNotStore }
-        ensures looks { changes (L.log looks.new) ≡ changes (L.log looks.old) }
-        ensures placed { placed (L.log looks.new) ≡ placed (L.log looks.old) }
-        ensures follows { follows (L.log looks.new) ≡ follows (L.log looks.old) }
+        ensures looks { OnlyLooks (L.log looks.old) (L.log looks.new) }
         ensures inside { IsInside (string_bytes self.now.root) path.now
             → StaysInside (string_bytes self.now.root) (L.log looks.old) (L.log looks.new) }
     {

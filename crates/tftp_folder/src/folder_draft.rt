@@ -3,15 +3,13 @@
 ghost use Rattle.std.specs.Prelude.{ℕ, ◌≡◌, ◌≢◌, List, ◌++◌, [], Some, None, true, false, OnOk};
 ghost use Rattle.std.specs.Prelude.{IfOk, OnErr};
 ghost use Rattle.std.specs.String.{string_bytes};
-ghost use Rattle.tftp_disk.specs.Changes.{changes, renames};
 ghost use Rattle.tftp_disk.specs.DiskTrace.{made_at, modes_asked, is_synced, sync_failed, state_of};
 ghost use Rattle.tftp_disk.specs.DiskWriter.{calls_of, handed};
 ghost use Rattle.tftp_folder.specs.Commit.{lock_of};
 ghost use Rattle.tftp_folder.specs.Looked.{LooksFor, is_found};
 ghost use Rattle.tftp_folder.specs.Inside.{IsInside, StaysInside};
+ghost use Rattle.tftp_folder.specs.Leaves.{OnlyLooks};
 ghost use Rattle.tftp_folder.specs.Modes.{are_permissions};
-ghost use Rattle.tftp_folder.specs.Opened.{follows};
-ghost use Rattle.tftp_folder.specs.Placed.{placed};
 
 use crate::finding::DraftPlace;
 use crate::replacing::permissions_of;
@@ -240,10 +238,7 @@ impl<F: Write + OpenFile> FolderDraft<F> {
     /// Whether the path of the draft is that of the open file.
     pub(crate) fn is_at_draft<L: Looks>(&mut self, looks: &mut L) -> bool
         ensures stays { StaysDone self.old self.new }
-        ensures looks { changes (L.log looks.new) ≡ changes (L.log looks.old) }
-        ensures renames { renames (L.log looks.new) ≡ renames (L.log looks.old) }
-        ensures placed { placed (L.log looks.new) ≡ placed (L.log looks.old) }
-        ensures follows { follows (L.log looks.new) ≡ follows (L.log looks.old) }
+        ensures looks { OnlyLooks (L.log looks.old) (L.log looks.new) }
         ensures inside { (root : List ℕ) → IsInside root (string_bytes self.old.draft)
             → StaysInside root (L.log looks.old) (L.log looks.new) }
     {
@@ -254,10 +249,7 @@ impl<F: Write + OpenFile> FolderDraft<F> {
     pub(crate) fn is_at_target<L: Looks>(&mut self, looks: &mut L) -> bool
         ensures stays { StaysDone self.old self.new }
         ensures own { LooksForOwn self.old self.new (L.log looks.old) (L.log looks.new) result }
-        ensures looks { changes (L.log looks.new) ≡ changes (L.log looks.old) }
-        ensures renames { renames (L.log looks.new) ≡ renames (L.log looks.old) }
-        ensures placed { placed (L.log looks.new) ≡ placed (L.log looks.old) }
-        ensures follows { follows (L.log looks.new) ≡ follows (L.log looks.old) }
+        ensures looks { OnlyLooks (L.log looks.old) (L.log looks.new) }
         ensures inside { (root : List ℕ) → IsInside root (string_bytes self.old.target)
             → StaysInside root (L.log looks.old) (L.log looks.new) }
     {
@@ -271,10 +263,7 @@ fn is_at<L: Looks, F: OpenFile>(writer: &mut DiskWriter<F>, looks: &mut L, path:
     ensures buffer { writer.new.buffer ≡ writer.old.buffer }
     ensures own { LooksFor path.now (calls_of writer.old) (calls_of writer.new)
         (L.log looks.old) (L.log looks.new) result }
-    ensures looks { changes (L.log looks.new) ≡ changes (L.log looks.old) }
-    ensures renames { renames (L.log looks.new) ≡ renames (L.log looks.old) }
-    ensures placed { placed (L.log looks.new) ≡ placed (L.log looks.old) }
-    ensures follows { follows (L.log looks.new) ≡ follows (L.log looks.old) }
+    ensures looks { OnlyLooks (L.log looks.old) (L.log looks.new) }
     ensures inside { (root : List ℕ) → IsInside root path.now
         → StaysInside root (L.log looks.old) (L.log looks.new) }
 {

@@ -5,16 +5,15 @@ ghost use Rattle.std.specs.Prelude.{ℕ, ◌≡◌, ◌≢◌, List, ◌∷◌, 
 ghost use Rattle.std.specs.IoError.{error_kind};
 ghost use Rattle.std.specs.String.{string_bytes};
 ghost use Rattle.std.specs.declared.io.Error.{Error};
-ghost use Rattle.tftp_disk.specs.Changes.{changes, renames};
+ghost use Rattle.tftp_disk.specs.Changes.{changes};
 ghost use Rattle.tftp_disk.specs.DiskTrace.{DiskEvent};
 ghost use Rattle.tftp_disk.specs.DiskTrace.DiskEvent.{Looked, Made};
 ghost use Rattle.tftp_folder.specs.Commit.{LooksThenRenames, lock_of};
-ghost use Rattle.tftp_folder.specs.Draft.{IsDraftBelow, IsThere, RefusesDraftLocked, RenamesDraft};
+ghost use Rattle.tftp_folder.specs.Draft.{RefusesDraftLocked, RenamesDraft};
 ghost use Rattle.tftp_folder.specs.Draft.{RenamesDraftLocked, RenamesNoDraft};
 ghost use Rattle.tftp_folder.specs.Inside.{IsInside, StaysInside};
-ghost use Rattle.tftp_folder.specs.Opened.{follows};
-ghost use Rattle.tftp_folder.specs.Placed.{StaysThere, placed};
-ghost use Rattle.tftp_folder.specs.Reached.{IsReached, ReachesNames};
+ghost use Rattle.tftp_folder.specs.Leaves.{OnlyLooks};
+ghost use Rattle.tftp_folder.specs.Naming.{NamesWithin};
 
 use crate::folder_draft::FolderDraft;
 use crate::naming::NameFault;
@@ -38,13 +37,7 @@ pub(crate) fn rename_locked<D: Disk>(
         (changes (D.log disk.new))) }
     ensures over { LooksThenRenames false (string_bytes draft.now.target) (D.log disk.old)
         (D.log disk.new) }
-    ensures there { IsThere draft.now (D.log disk.old)
-        → StaysThere (D.log disk.old) (D.log disk.new) }
-    ensures reaches { (root : List ℕ) → IsReached root (string_bytes draft.now.target) (D.log disk.old)
-        → ReachesNames root (D.log disk.old) (D.log disk.new) }
-    ensures follows { follows (D.log disk.new) ≡ follows (D.log disk.old) }
-    ensures inside { (root : List ℕ) → IsDraftBelow root draft.now
-        → StaysInside root (D.log disk.old) (D.log disk.new) }
+    ensures within { NamesWithin draft.now (D.log disk.old) (D.log disk.new) }
 {
     let lock = match draft.lock() {
         Ok(lock) => lock,
@@ -84,13 +77,7 @@ fn rename_new<D: Disk>(disk: &mut D, draft: &FolderDraft<D::File>) -> Result<(),
         (changes (D.log disk.new))) }
     ensures over { LooksThenRenames false (string_bytes draft.now.target) (D.log disk.old)
         (D.log disk.new) }
-    ensures there { IsThere draft.now (D.log disk.old)
-        → StaysThere (D.log disk.old) (D.log disk.new) }
-    ensures reaches { (root : List ℕ) → IsReached root (string_bytes draft.now.target) (D.log disk.old)
-        → ReachesNames root (D.log disk.old) (D.log disk.new) }
-    ensures follows { follows (D.log disk.new) ≡ follows (D.log disk.old) }
-    ensures inside { (root : List ℕ) → IsDraftBelow root draft.now
-        → StaysInside root (D.log disk.old) (D.log disk.new) }
+    ensures within { NamesWithin draft.now (D.log disk.old) (D.log disk.new) }
 {
     let (path, target) = (draft.draft.as_str(), draft.target.as_str());
     match check_free(disk, target) {
@@ -105,12 +92,9 @@ fn rename_new<D: Disk>(disk: &mut D, draft: &FolderDraft<D::File>) -> Result<(),
 
 /// Looks whether no file has the name.
 fn check_free<L: Looks>(looks: &mut L, name: &str) -> Result<(), NameFault>
-    ensures looks { changes (L.log looks.new) ≡ changes (L.log looks.old) }
-    ensures renames { renames (L.log looks.new) ≡ renames (L.log looks.old) }
+    ensures looks { OnlyLooks (L.log looks.old) (L.log looks.new) }
     ensures free { OnOk result ((error : Error) × (error_kind error ≡ ErrorKind.NotFound)
         × (L.log looks.new ≡ Looked name.now (Err error) ∷ L.log looks.old)) }
-    ensures placed { placed (L.log looks.new) ≡ placed (L.log looks.old) }
-    ensures follows { follows (L.log looks.new) ≡ follows (L.log looks.old) }
     ensures inside { (root : List ℕ) → IsInside root name.now
         → StaysInside root (L.log looks.old) (L.log looks.new) }
 {

@@ -6,7 +6,7 @@
 ghost use Rattle.std.specs.Prelude.{◌≡◌, ◌↔◌, ◌⊎◌, IfOk, IfErr, IfSome, OnErr, IsTrue};
 ghost use Rattle.std.specs.String.{string_bytes};
 ghost use Rattle.tftp_disk.specs.DiskFault.{MayNotStore};
-ghost use Rattle.tftp_folder.specs.Begin.{draft_name, later_name, DraftCalls, IsMade, IsMadeFor, IsNew};
+ghost use Rattle.tftp_folder.specs.Begin.{draft_name, later_name, DraftCalls, IsMade, IsMadeFor};
 ghost use Rattle.tftp_folder.specs.Begin.{TriesAt};
 ghost use Rattle.tftp_folder.specs.Looked.{LooksFor, RemovesOwn};
 
@@ -99,8 +99,8 @@ impl ServedFolder {
     }
 }
 
-/// Makes the file of a draft at this path, after removing an old one; `None` if the path is another
-/// server's.
+/// Makes and locks the file of a draft at this path, after removing an old one; `None` if the path is
+/// another server's.
 fn make_own<D: Disk>(disk: &mut D, path: &str) -> io::Result<Option<DiskFile<D::File>>>
     ensures made { IfOk result (λ made. IfSome made (λ file. IsMade path.now file.trace.events
         (D.log disk.old) (D.log disk.new))) }
@@ -109,20 +109,6 @@ fn make_own<D: Disk>(disk: &mut D, path: &str) -> io::Result<Option<DiskFile<D::
     if !clear(disk, path) {
         return Ok(None);
     }
-    match make_new(disk, path) {
-        Ok(Some(file)) => Ok(Some(file)),
-        Ok(None) => Ok(None),
-        Err(error) => Err(error),
-    }
-}
-
-/// Makes and locks the file of a draft where none is. It is the draft's own only if it is at the path
-/// after that: who found it there before may have removed it.
-fn make_new<D: Disk>(disk: &mut D, path: &str) -> io::Result<Option<DiskFile<D::File>>>
-    ensures made { IfOk result (λ made. IfSome made (λ file. IsNew path.now file.trace.events
-        (D.log disk.old) (D.log disk.new))) }
-    ensures tries { TriesAt path.now (D.log disk.old) (D.log disk.new) }
-{
     let mut file = match disk.make_locked(path) {
         Ok(file) => file,
         Err(error) => {
@@ -132,6 +118,8 @@ fn make_new<D: Disk>(disk: &mut D, path: &str) -> io::Result<Option<DiskFile<D::
             return Err(error);
         }
     };
+    // It is the draft's own only if it is at the path by now: who found it there before may have
+    // removed it.
     if is_own(&mut file, disk, path) {
         Ok(Some(file))
     } else {
@@ -157,19 +145,12 @@ fn clear<D: Disk>(disk: &mut D, path: &str) -> bool
             if found.kind != Kind::Regular {
                 return false;
             }
-            clear_old(disk, path)
+            match disk.lock(path) {
+                Ok(mut old) => remove_own(disk, &mut old, path),
+                Err(_) => false,
+            }
         }
         Err(error) => error.kind() == ErrorKind::NotFound,
-    }
-}
-
-/// Removes the file at the path, if it can be locked.
-fn clear_old<D: Disk>(disk: &mut D, path: &str) -> bool
-    ensures { TriesAt path.now (D.log disk.old) (D.log disk.new) }
-{
-    match disk.lock(path) {
-        Ok(mut old) => remove_own(disk, &mut old, path),
-        Err(_) => false,
     }
 }
 

@@ -1,12 +1,14 @@
 //! Gives a draft its name on the disk, in the folder that its request named.
 
 ghost use Rattle.std.specs.Prelude.{ℕ, ◌≡◌, List, ◌∷◌, true, false, Ok, IfOk, OnOk, OnErr, IfSome};
-ghost use Rattle.tftp_disk.specs.Changes.{changes, renames};
+ghost use Rattle.tftp_disk.specs.Changes.{changes};
 ghost use Rattle.tftp_disk.specs.DiskTrace.{DiskEvent};
 ghost use Rattle.tftp_disk.specs.DiskTrace.DiskEvent.{Looked};
 ghost use Rattle.tftp_disk.specs.declared.found.Found.{Found};
 ghost use Rattle.tftp_folder.specs.Opened.{AreFolders, follows};
-ghost use Rattle.tftp_folder.specs.Placed.{StaysThere, placed};
+ghost use Rattle.tftp_folder.specs.Leaves.{GivesNoName, OnlyLooks};
+ghost use Rattle.tftp_folder.specs.Naming.{NamesWithin};
+ghost use Rattle.tftp_folder.specs.Placed.{StaysThere};
 ghost use Rattle.tftp_folder.specs.Reached.{IsReached, ReachesNames};
 ghost use Rattle.tftp_disk.specs.DiskFault.{is_replaced};
 ghost use Rattle.tftp_disk.specs.NamedFolder.{path_in};
@@ -155,10 +157,7 @@ fn name_in<D: Disk>(
 fn remove_draft<D: Disk>(disk: &mut D, draft: &FolderDraft<D::File>, way: Way)
     ensures goes { ClearsDraft (is_link way) (string_bytes draft.now.draft)
         (changes (D.log disk.old)) (changes (D.log disk.new)) }
-    ensures renames { renames (D.log disk.new) ≡ renames (D.log disk.old) }
-    ensures there { StaysThere (D.log disk.old) (D.log disk.new) }
-    ensures reaches { (root : List ℕ) → ReachesNames root (D.log disk.old) (D.log disk.new) }
-    ensures follows { follows (D.log disk.new) ≡ follows (D.log disk.old) }
+    ensures unnamed { GivesNoName (D.log disk.old) (D.log disk.new) }
     ensures inside { (root : List ℕ) → IsDraftBelow root draft.now
         → StaysInside root (D.log disk.old) (D.log disk.new) }
 {
@@ -183,37 +182,16 @@ fn take_back_new<D: Disk>(
         (is_replaced existing) (changes (D.log disk.new)) }
     ensures own { is_replaced existing ≡ false → is_link way ≡ true
         → TakesBack draft.old draft.new (D.log disk.old) (D.log disk.new) }
-    ensures renames { renames (D.log disk.new) ≡ renames (D.log disk.old) }
-    ensures there { StaysThere (D.log disk.old) (D.log disk.new) }
-    ensures reaches { (root : List ℕ) → ReachesNames root (D.log disk.old) (D.log disk.new) }
-    ensures follows { follows (D.log disk.new) ≡ follows (D.log disk.old) }
+    ensures unnamed { GivesNoName (D.log disk.old) (D.log disk.new) }
     ensures inside { (root : List ℕ) → IsDraftBelow root draft.old
         → StaysInside root (D.log disk.old) (D.log disk.new) }
 {
     match existing {
-        Existing::Refused => take_back_linked(disk, draft, way),
+        Existing::Refused => match way {
+            Way::Linked => take_back(disk, draft),
+            Way::Renamed => {}
+        },
         Existing::Replaced => {}
-    }
-}
-
-/// Removes the name of a draft again, if it has its own path still, and unless it is another file's by
-/// now.
-fn take_back_linked<D: Disk>(disk: &mut D, draft: &mut FolderDraft<D::File>, way: Way)
-    ensures stays { StaysDone draft.old draft.new }
-    ensures removed { MayRemove (string_bytes draft.new.target) (changes (D.log disk.old))
-        (changes (D.log disk.new)) }
-    ensures own { is_link way ≡ true
-        → TakesBack draft.old draft.new (D.log disk.old) (D.log disk.new) }
-    ensures renames { renames (D.log disk.new) ≡ renames (D.log disk.old) }
-    ensures there { StaysThere (D.log disk.old) (D.log disk.new) }
-    ensures reaches { (root : List ℕ) → ReachesNames root (D.log disk.old) (D.log disk.new) }
-    ensures follows { follows (D.log disk.new) ≡ follows (D.log disk.old) }
-    ensures inside { (root : List ℕ) → IsDraftBelow root draft.old
-        → StaysInside root (D.log disk.old) (D.log disk.new) }
-{
-    match way {
-        Way::Linked => take_back(disk, draft),
-        Way::Renamed => {}
     }
 }
 
@@ -223,10 +201,7 @@ fn take_back<D: Disk>(disk: &mut D, draft: &mut FolderDraft<D::File>)
     ensures removed { MayRemove (string_bytes draft.new.target) (changes (D.log disk.old))
         (changes (D.log disk.new)) }
     ensures own { TakesBack draft.old draft.new (D.log disk.old) (D.log disk.new) }
-    ensures renames { renames (D.log disk.new) ≡ renames (D.log disk.old) }
-    ensures there { StaysThere (D.log disk.old) (D.log disk.new) }
-    ensures reaches { (root : List ℕ) → ReachesNames root (D.log disk.old) (D.log disk.new) }
-    ensures follows { follows (D.log disk.new) ≡ follows (D.log disk.old) }
+    ensures unnamed { GivesNoName (D.log disk.old) (D.log disk.new) }
     ensures inside { (root : List ℕ) → IsDraftBelow root draft.old
         → StaysInside root (D.log disk.old) (D.log disk.new) }
 {
@@ -252,13 +227,7 @@ fn put_name<D: Disk>(
         (is_replaced existing) (changes (D.log disk.new))) }
     ensures over { LooksThenRenames (is_replaced existing) (string_bytes draft.old.target)
         (D.log disk.old) (D.log disk.new) }
-    ensures there { IsThere draft.old (D.log disk.old)
-        → StaysThere (D.log disk.old) (D.log disk.new) }
-    ensures reaches { (root : List ℕ) → IsReached root (string_bytes draft.old.target) (D.log disk.old)
-        → ReachesNames root (D.log disk.old) (D.log disk.new) }
-    ensures follows { follows (D.log disk.new) ≡ follows (D.log disk.old) }
-    ensures inside { (root : List ℕ) → IsDraftBelow root draft.old
-        → StaysInside root (D.log disk.old) (D.log disk.new) }
+    ensures within { NamesWithin draft.old (D.log disk.old) (D.log disk.new) }
 {
     match existing {
         Existing::Refused => match name_new(disk, draft) {
@@ -280,15 +249,12 @@ fn look_again<D: Disk>(
     draft: &mut FolderDraft<D::File>,
 ) -> Result<(), Reason>
     ensures stays { StaysDone draft.old draft.new }
-    ensures renames { renames (D.log disk.new) ≡ renames (D.log disk.old) }
+    ensures unnamed { GivesNoName (D.log disk.old) (D.log disk.new) }
     ensures ok { OnOk result (changes (D.log disk.new) ≡ changes (D.log disk.old)) }
     ensures err { OnErr result (MayRemove (string_bytes draft.new.target)
         (changes (D.log disk.old)) (changes (D.log disk.new))) }
     ensures own { OnErr result (TakesBack draft.old draft.new (D.log disk.old)
         (D.log disk.new)) }
-    ensures there { StaysThere (D.log disk.old) (D.log disk.new) }
-    ensures reaches { (root : List ℕ) → ReachesNames root (D.log disk.old) (D.log disk.new) }
-    ensures follows { follows (D.log disk.new) ≡ follows (D.log disk.old) }
     ensures inside { IsDraftBelow root.now draft.old
         → StaysInside root.now (D.log disk.old) (D.log disk.new) }
 {
@@ -308,10 +274,7 @@ fn look_again<D: Disk>(
 fn leads_to<L: Looks>(looks: &mut L, root: &str, folder: &str, id: FileId) -> bool
     ensures folders { result ≡ true → (before : List DiskEvent)
         × AreFolders root.now folder.now before (L.log looks.new) }
-    ensures looks { changes (L.log looks.new) ≡ changes (L.log looks.old) }
-    ensures renames { renames (L.log looks.new) ≡ renames (L.log looks.old) }
-    ensures placed { placed (L.log looks.new) ≡ placed (L.log looks.old) }
-    ensures follows { follows (L.log looks.new) ≡ follows (L.log looks.old) }
+    ensures looks { OnlyLooks (L.log looks.old) (L.log looks.new) }
     ensures inside { IsInside root.now folder.now
         → StaysInside root.now (L.log looks.old) (L.log looks.new) }
 {
@@ -328,12 +291,9 @@ fn leads_to<L: Looks>(looks: &mut L, root: &str, folder: &str, id: FileId) -> bo
 
 /// Whether this path and each above it, up to the root, is that of a folder and no link.
 pub(crate) fn has_no_link<L: Looks>(looks: &mut L, root: &str, folder: &str) -> bool
-    ensures looks { changes (L.log looks.new) ≡ changes (L.log looks.old) }
-    ensures renames { renames (L.log looks.new) ≡ renames (L.log looks.old) }
+    ensures looks { OnlyLooks (L.log looks.old) (L.log looks.new) }
     ensures folders { result ≡ true → AreFolders root.now folder.now (L.log looks.old)
         (L.log looks.new) }
-    ensures placed { placed (L.log looks.new) ≡ placed (L.log looks.old) }
-    ensures follows { follows (L.log looks.new) ≡ follows (L.log looks.old) }
     ensures inside { IsInside root.now folder.now
         → StaysInside root.now (L.log looks.old) (L.log looks.new) }
 {
@@ -352,13 +312,10 @@ pub(crate) fn has_no_link<L: Looks>(looks: &mut L, root: &str, folder: &str) -> 
 
 /// Whether the path is that of a folder, and no link.
 fn is_folder<L: Looks>(looks: &mut L, path: &str) -> bool
-    ensures looks { changes (L.log looks.new) ≡ changes (L.log looks.old) }
-    ensures renames { renames (L.log looks.new) ≡ renames (L.log looks.old) }
+    ensures looks { OnlyLooks (L.log looks.old) (L.log looks.new) }
     ensures folder { result ≡ true → (found : Found)
         × (L.log looks.new ≡ Looked path.now (Ok found) ∷ L.log looks.old)
         × (found.kind ≡ Kind.Folder) }
-    ensures placed { placed (L.log looks.new) ≡ placed (L.log looks.old) }
-    ensures follows { follows (L.log looks.new) ≡ follows (L.log looks.old) }
     ensures inside { (root : List ℕ) → IsInside root path.now
         → StaysInside root (L.log looks.old) (L.log looks.new) }
 {
@@ -378,13 +335,7 @@ fn name_new<D: Disk>(disk: &mut D, draft: &FolderDraft<D::File>) -> Result<Way, 
         (changes (D.log disk.new))) }
     ensures over { LooksThenRenames false (string_bytes draft.now.target) (D.log disk.old)
         (D.log disk.new) }
-    ensures there { IsThere draft.now (D.log disk.old)
-        → StaysThere (D.log disk.old) (D.log disk.new) }
-    ensures reaches { (root : List ℕ) → IsReached root (string_bytes draft.now.target) (D.log disk.old)
-        → ReachesNames root (D.log disk.old) (D.log disk.new) }
-    ensures follows { follows (D.log disk.new) ≡ follows (D.log disk.old) }
-    ensures inside { (root : List ℕ) → IsDraftBelow root draft.now
-        → StaysInside root (D.log disk.old) (D.log disk.new) }
+    ensures within { NamesWithin draft.now (D.log disk.old) (D.log disk.new) }
 {
     let (path, target) = (draft.draft.as_str(), draft.target.as_str());
     match disk.link(draft.file(), path, target) {

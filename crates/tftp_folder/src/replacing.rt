@@ -3,16 +3,15 @@
 ghost use Rattle.std.specs.Prelude.{ℕ, ◌≡◌, ◌≤◌, List, ◌∷◌, true, Ok, OnOk, OnErr};
 ghost use Rattle.std.specs.IoError.{error_kind};
 ghost use Rattle.std.specs.String.{string_bytes};
-ghost use Rattle.tftp_disk.specs.Changes.{changes, renames};
+ghost use Rattle.tftp_disk.specs.Changes.{changes};
 ghost use Rattle.tftp_disk.specs.DiskTrace.DiskEvent.{Tried};
 ghost use Rattle.tftp_folder.specs.Commit.{MayBeReplaced, LooksThenRenames};
-ghost use Rattle.tftp_folder.specs.Draft.{IsDone, IsDraftBelow, KeepsDone, NamesDraft, RefusesDraft};
-ghost use Rattle.tftp_folder.specs.Draft.{IsThere, SameNames};
+ghost use Rattle.tftp_folder.specs.Draft.{IsDone, KeepsDone, NamesDraft, RefusesDraft, SameNames};
 ghost use Rattle.tftp_folder.specs.Inside.{IsInside, StaysInside};
+ghost use Rattle.tftp_folder.specs.Leaves.{OnlyLooks};
+ghost use Rattle.tftp_folder.specs.Naming.{NamesWithin};
 ghost use Rattle.tftp_folder.specs.Modes.{permissions};
-ghost use Rattle.tftp_folder.specs.Opened.{follows};
-ghost use Rattle.tftp_folder.specs.Placed.{StaysThere, placed};
-ghost use Rattle.tftp_folder.specs.Reached.{IsReached, ReachesNames};
+ghost use Rattle.tftp_folder.specs.Reached.{IsReached};
 ghost use Rattle.tftp_folder.specs.Uploads.{IsBelow};
 
 use crate::folder_draft::FolderDraft;
@@ -40,13 +39,10 @@ pub(crate) fn check_replaced<D: Disk>(
     path: &str,
     found: &Found,
 ) -> Result<(), NameFault>
-    ensures looks { changes (D.log disk.new) ≡ changes (D.log disk.old) }
-    ensures renames { renames (D.log disk.new) ≡ renames (D.log disk.old) }
+    ensures looks { OnlyLooks (D.log disk.old) (D.log disk.new) }
     ensures regular { OnOk result (found.now.kind ≡ Kind.Regular) }
     ensures tried { OnOk result (D.log disk.new ≡ Tried path.now (Ok tt)
         ∷ D.log disk.old) }
-    ensures placed { placed (D.log disk.new) ≡ placed (D.log disk.old) }
-    ensures follows { follows (D.log disk.new) ≡ follows (D.log disk.old) }
     ensures inside { (root : List ℕ) → IsInside root path.now
         → StaysInside root (D.log disk.old) (D.log disk.new) }
 {
@@ -76,13 +72,7 @@ pub(crate) fn rename_over<D: Disk>(
         (changes (D.log disk.new))) }
     ensures over { LooksThenRenames true (string_bytes draft.old.target) (D.log disk.old)
         (D.log disk.new) }
-    ensures there { IsThere draft.old (D.log disk.old)
-        → StaysThere (D.log disk.old) (D.log disk.new) }
-    ensures reaches { (root : List ℕ) → IsReached root (string_bytes draft.old.target) (D.log disk.old)
-        → ReachesNames root (D.log disk.old) (D.log disk.new) }
-    ensures follows { follows (D.log disk.new) ≡ follows (D.log disk.old) }
-    ensures inside { (root : List ℕ) → IsDraftBelow root draft.old
-        → StaysInside root (D.log disk.old) (D.log disk.new) }
+    ensures within { NamesWithin draft.old (D.log disk.old) (D.log disk.new) }
 {
     match check_named(disk, draft) {
         Ok(()) => {}
@@ -101,13 +91,10 @@ fn check_named<D: Disk>(disk: &mut D, draft: &mut FolderDraft<D::File>) -> Resul
     requires { IsDone draft.old }
     ensures stays { OnOk result (KeepsDone draft.old draft.new) }
     ensures names { SameNames draft.old draft.new }
-    ensures looks { changes (D.log disk.new) ≡ changes (D.log disk.old) }
-    ensures renames { renames (D.log disk.new) ≡ renames (D.log disk.old) }
+    ensures looks { OnlyLooks (D.log disk.old) (D.log disk.new) }
     ensures over { OnOk result (MayBeReplaced (string_bytes draft.old.target) (D.log disk.new)) }
     ensures reached { (root : List ℕ) → IsReached root (string_bytes draft.old.target) (D.log disk.old)
         → OnOk result (IsReached root (string_bytes draft.old.target) (D.log disk.new)) }
-    ensures placed { placed (D.log disk.new) ≡ placed (D.log disk.old) }
-    ensures follows { follows (D.log disk.new) ≡ follows (D.log disk.old) }
     ensures inside { (root : List ℕ) → IsBelow root (string_bytes draft.old.target)
         → StaysInside root (D.log disk.old) (D.log disk.new) }
 {

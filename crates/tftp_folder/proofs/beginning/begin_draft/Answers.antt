@@ -14,7 +14,7 @@ use Rattle.tftp_folder.proofs.beginning.begin_draft.Goals as goal
 pub returns-in_err-place-clause-err : goal.returns-in_err-place-clause-err
 returns-in_err-place-clause-err g c =
     on_err c.from_residual.result (subst (TriesDraft (string_bytes c.args.served.now.drafts) c.args.port (changes (g.D.Looks.log c.args.disk.now)))
-    (sym c.place_to_write.ensures.looks) Nothing)
+    (sym c.place_to_write.ensures.looks.changes) Nothing)
 
 pub returns-in_err-place-clause-others : goal.returns-in_err-place-clause-others
 returns-in_err-place-clause-others g c = search (rules, still_by)
@@ -24,7 +24,7 @@ returns-in_err-made-clause-err g c = grind (arith, common_steps, on_err, tries_b
 
 pub returns-in_err-made-clause-others : goal.returns-in_err-made-clause-others
 returns-in_err-made-clause-others g c =
-    then_others _ _ _ _ _ c.place_to_write.ensures.placed (others_by _ _ _ _ c.in_err-made.ensures.err)
+    then_others _ _ _ _ _ c.place_to_write.ensures.looks.placed (others_by _ _ _ _ c.in_err-made.ensures.err)
 
 pub returns-in_err-made-clause-follows : goal.returns-in_err-made-clause-follows
 returns-in_err-made-clause-follows g c = grind (arith, common_steps, follows_by)
@@ -35,7 +35,7 @@ returns-in_err-made-clause-inside g c = λ drafts target all.
 
 pub returns-in-Ok-clause-others : goal.returns-in-Ok-clause-others
 returns-in-Ok-clause-others g c =
-    then_others _ _ _ _ _ c.place_to_write.ensures.placed (others_by _ _ _ _ (made_calls _ _ _ _ _ _
+    then_others _ _ _ _ _ c.place_to_write.ensures.looks.placed (others_by _ _ _ _ (made_calls _ _ _ _ _ _
     c.in_ok-made.ensures.ok))
 
 pub returns-in-Ok-clause-follows : goal.returns-in-Ok-clause-follows
@@ -48,12 +48,12 @@ returns-in-Ok-clause-inside g c = λ drafts target all.
 
 pub returns-in-Err-clause-others : goal.returns-in-Err-clause-others
 returns-in-Err-clause-others g c =
-    then_others _ _ _ _ _ c.place_to_write.ensures.placed (others_by _ _ _ _ (made_calls _ _ _ _ _ _
+    then_others _ _ _ _ _ c.place_to_write.ensures.looks.placed (others_by _ _ _ _ (made_calls _ _ _ _ _ _
     c.in_ok-made.ensures.ok))
 
 pub returns-in-Err-clause-follows : goal.returns-in-Err-clause-follows
 returns-in-Err-clause-follows g c =
-    follows_by _ _ _ _ (made_calls _ _ _ _ _ _ c.in_ok-made.ensures.ok) ∙ c.place_to_write.ensures.follows
+    follows_by _ _ _ _ (made_calls _ _ _ _ _ _ c.in_ok-made.ensures.ok) ∙ c.place_to_write.ensures.looks.follows
 
 pub returns-in-Err-clause-inside : goal.returns-in-Err-clause-inside
 returns-in-Err-clause-inside g c = λ drafts target all.
@@ -62,7 +62,7 @@ returns-in-Err-clause-inside g c = λ drafts target all.
 
 pub returns-in-None-clause-others : goal.returns-in-None-clause-others
 returns-in-None-clause-others g c =
-    then_others _ _ _ _ _ c.place_to_write.ensures.placed (others_by _ _ _ _ (made_calls _ _ _ _ _ _
+    then_others _ _ _ _ _ c.place_to_write.ensures.looks.placed (others_by _ _ _ _ (made_calls _ _ _ _ _ _
     c.in_ok-made.ensures.ok))
 
 pub returns-in-None-clause-follows : goal.returns-in-None-clause-follows
@@ -77,7 +77,7 @@ pub returns-in-Err-clause-err : goal.returns-in-Err-clause-err
 returns-in-Err-clause-err g c =
     subst (λ (before : List DiskEvent). TriesDraft (string_bytes c.args.served.now.drafts) c.args.port before (changes
     (g.D.Looks.log c.make_draft.new.disk)))
-    c.place_to_write.ensures.looks (tries_by _ _ _ _ (made_calls _ _ _ _ _ _ c.in_ok-made.ensures.ok))
+    c.place_to_write.ensures.looks.changes (tries_by _ _ _ _ (made_calls _ _ _ _ _ _ c.in_ok-made.ensures.ok))
 
 pub returns-in-Ok-clause-ok : goal.returns-in-Ok-clause-ok
 returns-in-Ok-clause-ok g c = record {
@@ -87,7 +87,7 @@ returns-in-Ok-clause-ok g c = record {
   made =
       makes_draft (string_bytes c.args.served.now.drafts) c.args.port (string_bytes c.in_ok-made.made.path)
       (string_bytes c.take_permissions.new.self.draft) c.in_ok-made.made.file.trace.events (g.D.Looks.log c.args.disk.now) (g.D.Looks.log c.place_to_write.new.disk) (g.D.Looks.log c.make_draft.new.disk)
-      c.place_to_write.ensures.looks
+      c.place_to_write.ensures.looks.changes
       (ap string_bytes (c.take_permissions.ensures.stays.names.draft ∙ c.new-draft.ensures.draft)) c.in_ok-made.ensures.ok;
 }
 
@@ -98,7 +98,7 @@ returns-in-None-clause-ok g c = record {
   made =
       makes_draft (string_bytes c.args.served.now.drafts) c.args.port (string_bytes c.in_ok-made.made.path)
       (string_bytes c.new-draft.result.draft) c.in_ok-made.made.file.trace.events (g.D.Looks.log c.args.disk.now) (g.D.Looks.log c.place_to_write.new.disk) (g.D.Looks.log c.make_draft.new.disk)
-      c.place_to_write.ensures.looks (ap string_bytes c.new-draft.ensures.draft) c.in_ok-made.ensures.ok;
+      c.place_to_write.ensures.looks.changes (ap string_bytes c.new-draft.ensures.draft) c.in_ok-made.ensures.ok;
 }
 
 pub returns-in-Ok-clause-there : goal.returns-in-Ok-clause-there
@@ -116,20 +116,20 @@ returns-in_err-place-clause-reaches g c = search (rules, looks_reach)
 
 pub returns-in_err-made-clause-reaches : goal.returns-in_err-made-clause-reaches
 returns-in_err-made-clause-reaches g c = λ root.
-    then_reaches _ _ _ _ (looks_reach root _ _ c.place_to_write.ensures.placed) (draft_reaches root _ _ _ _
+    then_reaches _ _ _ _ (looks_reach root _ _ c.place_to_write.ensures.looks.placed) (draft_reaches root _ _ _ _
     c.in_err-made.ensures.err)
 
 pub returns-in-Ok-clause-reaches : goal.returns-in-Ok-clause-reaches
 returns-in-Ok-clause-reaches g c = λ root.
-    then_reaches _ _ _ _ (looks_reach root _ _ c.place_to_write.ensures.placed) (draft_reaches root _ _ _ _ (made_calls
+    then_reaches _ _ _ _ (looks_reach root _ _ c.place_to_write.ensures.looks.placed) (draft_reaches root _ _ _ _ (made_calls
     _ _ _ _ _ _ c.in_ok-made.ensures.ok))
 
 pub returns-in-Err-clause-reaches : goal.returns-in-Err-clause-reaches
 returns-in-Err-clause-reaches g c = λ root.
-    then_reaches _ _ _ _ (looks_reach root _ _ c.place_to_write.ensures.placed) (draft_reaches root _ _ _ _ (made_calls
+    then_reaches _ _ _ _ (looks_reach root _ _ c.place_to_write.ensures.looks.placed) (draft_reaches root _ _ _ _ (made_calls
     _ _ _ _ _ _ c.in_ok-made.ensures.ok))
 
 pub returns-in-None-clause-reaches : goal.returns-in-None-clause-reaches
 returns-in-None-clause-reaches g c = λ root.
-    then_reaches _ _ _ _ (looks_reach root _ _ c.place_to_write.ensures.placed) (draft_reaches root _ _ _ _ (made_calls
+    then_reaches _ _ _ _ (looks_reach root _ _ c.place_to_write.ensures.looks.placed) (draft_reaches root _ _ _ _ (made_calls
     _ _ _ _ _ _ c.in_ok-made.ensures.ok))

@@ -1,13 +1,21 @@
--- The path is cleared, and then the file is made.
-use Rattle.std.proofs.Common.{rules}
-use Rattle.tftp_folder.proofs.MakingLemmas.{then_tries}
+-- The path is cleared, and then the file is made, and its path is looked at.
+use Rattle.tftp_folder.proofs.MakingLemmas.{looks_at, makes_at, then_tries}
 use Rattle.tftp_folder.proofs.making.make_own.Goals as goal
 
-pub returns-in-Ok-Some-clause-tries : goal.returns-in-Ok-Some-clause-tries
-returns-in-Ok-Some-clause-tries g c = search (rules, then_tries)
-
-pub returns-in-Ok-None-clause-tries : goal.returns-in-Ok-None-clause-tries
-returns-in-Ok-None-clause-tries g c = search (rules, then_tries)
+pub returns-then-is_taken-clause-tries : goal.returns-then-is_taken-clause-tries
+returns-then-is_taken-clause-tries g c =
+    then_tries _ _ _ _ c.clear.ensures (makes_at _ _ _ _ c.make_locked.ensures.noted)
 
 pub returns-in-Err-clause-tries : goal.returns-in-Err-clause-tries
-returns-in-Err-clause-tries g c = search (rules, then_tries)
+returns-in-Err-clause-tries g c =
+    then_tries _ _ _ _ c.clear.ensures (makes_at _ _ _ _ c.make_locked.ensures.noted)
+
+pub returns-then-is_own-clause-tries : goal.returns-then-is_own-clause-tries
+returns-then-is_own-clause-tries g c =
+    then_tries _ _ _ _ c.clear.ensures (then_tries _ _ _ _ (makes_at _ _ _ _ c.in-Ok.ensures.noted) (looks_at _ _ _ _
+    c.is_own.ensures.looked))
+
+pub returns-else-is_own-clause-tries : goal.returns-else-is_own-clause-tries
+returns-else-is_own-clause-tries g c =
+    then_tries _ _ _ _ c.clear.ensures (then_tries _ _ _ _ (makes_at _ _ _ _ c.in-Ok.ensures.noted) (looks_at _ _ _ _
+    c.is_own.ensures.looked))

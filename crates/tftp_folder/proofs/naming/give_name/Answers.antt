@@ -21,21 +21,21 @@ returns-clause-err g c =
       opened,
       rw (← c.as_str-2.ensures.value ∙ ap string_bytes (sym c.name_in.ensures.names.target)) (subst (λ (before : List
           DiskEvent). OpensFolder path folder before opened)
-          (c.leads_to.ensures.looks ∙ c.is_at_draft.ensures.looks) c.in-Ok.ensures.ok),
+          (c.leads_to.ensures.looks.changes ∙ c.is_at_draft.ensures.looks.changes) c.in-Ok.ensures.ok),
       c.in-Err-name_in.ensures.err,
     ))
 
 pub returns-in-Ok-name_in-clause-over : goal.returns-in-Ok-name_in-clause-over
 returns-in-Ok-name_in-clause-over g c =
     then_renames _ _ (g.D.Looks.log c.args.disk.now) (g.D.Looks.log c.of.new.disk) (g.D.Looks.log c.name_in.new.disk)
-    (c.of.ensures.renames ∙ c.leads_to.ensures.renames ∙ c.is_at_draft.ensures.renames)
+    (c.of.ensures.renames ∙ c.leads_to.ensures.looks.renames ∙ c.is_at_draft.ensures.looks.renames)
     (looks_as _ _ _ _ (g.D.Looks.log c.of.new.disk) (g.D.Looks.log c.name_in.new.disk) refl
     (ap string_bytes c.is_at_draft.ensures.stays.names.target) c.name_in.ensures.over)
 
 pub returns-clause-over : goal.returns-clause-over
 returns-clause-over g c =
     then_renames _ _ (g.D.Looks.log c.args.disk.now) (g.D.Looks.log c.of.new.disk) (g.D.Looks.log c.name_in.new.disk)
-    (c.of.ensures.renames ∙ c.leads_to.ensures.renames ∙ c.is_at_draft.ensures.renames)
+    (c.of.ensures.renames ∙ c.leads_to.ensures.looks.renames ∙ c.is_at_draft.ensures.looks.renames)
     (looks_as _ _ _ _ (g.D.Looks.log c.of.new.disk) (g.D.Looks.log c.name_in.new.disk) refl
     (ap string_bytes c.is_at_draft.ensures.stays.names.target) c.name_in.ensures.over)
 
@@ -91,7 +91,7 @@ pub returns-in-Ok-name_in-clause-there : goal.returns-in-Ok-name_in-clause-there
 returns-in-Ok-name_in-clause-there g c = λ there names.
     let before = g.D.Looks.log c.args.disk.now in
     let opened = g.D.Looks.log c.of.new.disk in
-    let same = opens_placed _ _ _ c.of.ensures.calls ∙ c.leads_to.ensures.placed ∙ c.is_at_draft.ensures.placed in
+    let same = opens_placed _ _ _ c.of.ensures.calls ∙ c.leads_to.ensures.looks.placed ∙ c.is_at_draft.ensures.looks.placed in
     c.name_in.ensures.there (same_there c.args.draft.now c.is_at_draft.new.self opened c.is_at_draft.ensures.stays.names
     (looks_past c.args.draft.now before opened same there)) (looks_there before opened same names)
 
@@ -102,7 +102,7 @@ pub returns-clause-there : goal.returns-clause-there
 returns-clause-there g c = λ there names.
     let before = g.D.Looks.log c.args.disk.now in
     let opened = g.D.Looks.log c.of.new.disk in
-    let same = opens_placed _ _ _ c.of.ensures.calls ∙ c.leads_to.ensures.placed ∙ c.is_at_draft.ensures.placed in
+    let same = opens_placed _ _ _ c.of.ensures.calls ∙ c.leads_to.ensures.looks.placed ∙ c.is_at_draft.ensures.looks.placed in
     c.name_in.ensures.there (same_there c.args.draft.now c.is_at_draft.new.self opened c.is_at_draft.ensures.stays.names
     (looks_past c.args.draft.now before opened same there)) (looks_there before opened same names)
 
@@ -124,8 +124,8 @@ returns-in-Ok-name_in-clause-reaches g c =
     let before = g.D.Looks.log c.args.disk.now in
     let looked = g.D.Looks.log c.leads_to.new.looks in
     let opened = g.D.Looks.log c.of.new.disk in
-    then_reaches _ _ _ _ (looks_reach root _ _ (opens_placed _ _ _ c.of.ensures.calls ∙ c.leads_to.ensures.placed ∙
-    c.is_at_draft.ensures.placed)) (c.name_in.ensures.reaches (walk_reached _ _ _ _ _ _ _ c.as_str.ensures.value
+    then_reaches _ _ _ _ (looks_reach root _ _ (opens_placed _ _ _ c.of.ensures.calls ∙ c.leads_to.ensures.looks.placed ∙
+    c.is_at_draft.ensures.looks.placed)) (c.name_in.ensures.reaches (walk_reached _ _ _ _ _ _ _ c.as_str.ensures.value
     c.as_str-2.ensures.value c.folder_of-folder.ensures (c.leads_to.ensures.folders c.if-not-leads_to.false)
     c.of.ensures.calls))
 
@@ -135,7 +135,7 @@ returns-clause-reaches g c =
     let before = g.D.Looks.log c.args.disk.now in
     let looked = g.D.Looks.log c.leads_to.new.looks in
     let opened = g.D.Looks.log c.of.new.disk in
-    then_reaches _ _ _ _ (looks_reach root _ _ (opens_placed _ _ _ c.of.ensures.calls ∙ c.leads_to.ensures.placed ∙
-    c.is_at_draft.ensures.placed)) (c.name_in.ensures.reaches (walk_reached _ _ _ _ _ _ _ c.as_str.ensures.value
+    then_reaches _ _ _ _ (looks_reach root _ _ (opens_placed _ _ _ c.of.ensures.calls ∙ c.leads_to.ensures.looks.placed ∙
+    c.is_at_draft.ensures.looks.placed)) (c.name_in.ensures.reaches (walk_reached _ _ _ _ _ _ _ c.as_str.ensures.value
     c.as_str-2.ensures.value c.folder_of-folder.ensures (c.leads_to.ensures.folders c.if-not-leads_to.false)
     c.of.ensures.calls))

@@ -1,9 +1,8 @@
 -- The folder and the name of a draft below the root are looked at, and the name may be removed.
-use Rattle.std.proofs.lemmas.Grind.{common_steps}
-use Rattle.std.proofs.Common.{inr, arith, rules}
+use Rattle.std.proofs.Common.{inr, rules}
 use Rattle.tftp_folder.proofs.InsideLemmas.{above_inside}
+use Rattle.tftp_folder.proofs.LeavesLemmas.{looks_unnamed, then_looks, then_unnamed}
 use Rattle.tftp_folder.proofs.NamingLemmas.{leaves_other, then_may_remove, then_takes_back}
-use Rattle.tftp_folder.proofs.ReachedLemmas.{looks_reach, then_reaches}
 use Rattle.tftp_folder.proofs.naming.look_again.Goals as goal
 
 pub returns-then-not-leads_to-clause-err : goal.returns-then-not-leads_to-clause-err
@@ -33,22 +32,14 @@ returns-else-is_at_target-clause-inside g c = λ below all.
     c.is_at_target.ensures.inside root (inr below.target) (c.leads_to.ensures.inside (above_inside _ _ _ _
     c.as_str.ensures.value below.target c.folder_of-folder.ensures) all)
 
-pub returns-then-not-leads_to-clause-there : goal.returns-then-not-leads_to-clause-there
-returns-then-not-leads_to-clause-there g c = search rules
+pub returns-then-not-leads_to-clause-unnamed : goal.returns-then-not-leads_to-clause-unnamed
+returns-then-not-leads_to-clause-unnamed g c =
+    then_unnamed _ _ _ (looks_unnamed _ _ c.leads_to.ensures.looks) c.take_back.ensures.unnamed
 
-pub returns-then-is_at_target-clause-there : goal.returns-then-is_at_target-clause-there
-returns-then-is_at_target-clause-there g c = search rules
+pub returns-then-is_at_target-clause-unnamed : goal.returns-then-is_at_target-clause-unnamed
+returns-then-is_at_target-clause-unnamed g c =
+    looks_unnamed _ _ (then_looks _ _ _ c.leads_to.ensures.looks c.is_at_target.ensures.looks)
 
-pub returns-else-is_at_target-clause-there : goal.returns-else-is_at_target-clause-there
-returns-else-is_at_target-clause-there g c = search rules
-
-pub returns-then-not-leads_to-clause-reaches : goal.returns-then-not-leads_to-clause-reaches
-returns-then-not-leads_to-clause-reaches g c = λ root.
-    let looked = g.D.Looks.log c.leads_to.new.looks in
-    then_reaches _ _ _ _ (looks_reach root _ _ c.leads_to.ensures.placed) (c.take_back.ensures.reaches root)
-
-pub returns-then-is_at_target-clause-reaches : goal.returns-then-is_at_target-clause-reaches
-returns-then-is_at_target-clause-reaches g c = grind (arith, common_steps)
-
-pub returns-else-is_at_target-clause-reaches : goal.returns-else-is_at_target-clause-reaches
-returns-else-is_at_target-clause-reaches g c = grind (arith, common_steps)
+pub returns-else-is_at_target-clause-unnamed : goal.returns-else-is_at_target-clause-unnamed
+returns-else-is_at_target-clause-unnamed g c =
+    looks_unnamed _ _ (then_looks _ _ _ c.leads_to.ensures.looks c.is_at_target.ensures.looks)

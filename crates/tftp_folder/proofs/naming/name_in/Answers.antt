@@ -36,16 +36,16 @@ pub returns-in-Err-sync-clause-over : goal.returns-in-Err-sync-clause-over
 returns-in-Err-sync-clause-over g c =
     renames_then _ _ (g.D.Looks.log c.args.disk.now) (g.D.Looks.log c.put_name.new.disk) (g.D.Looks.log c.take_back_new.new.disk)
     c.in-Ok.ensures.over
-    (c.take_back_new.ensures.renames ∙ c.sync.ensures.renames ∙ c.look_again.ensures.renames)
+    (c.take_back_new.ensures.unnamed.renames ∙ c.sync.ensures.renames ∙ c.look_again.ensures.unnamed.renames)
 
 pub returns-in-Err-clause-inside : goal.returns-in-Err-clause-inside
-returns-in-Err-clause-inside g c = λ fits. c.put_name.ensures.inside c.args.root.now
+returns-in-Err-clause-inside g c = λ fits. c.put_name.ensures.within.inside c.args.root.now
 
 pub returns-in-Err-look_again-clause-inside : goal.returns-in-Err-look_again-clause-inside
 returns-in-Err-look_again-clause-inside g c = λ fits below all.
     c.look_again.ensures.inside
     (stays_below c.args.root.now c.args.draft.now c.put_name.new.draft c.put_name.ensures.names below)
-    (c.put_name.ensures.inside c.args.root.now below all)
+    (c.put_name.ensures.within.inside c.args.root.now below all)
 
 pub returns-in-Ok-sync-clause-inside : goal.returns-in-Ok-sync-clause-inside
 returns-in-Ok-sync-clause-inside g c = λ fits below all.
@@ -56,7 +56,7 @@ returns-in-Ok-sync-clause-inside g c = λ fits below all.
     c.sync.ensures.calls
     (c.look_again.ensures.inside
     (stays_below c.args.root.now c.args.draft.now c.put_name.new.draft c.put_name.ensures.names below)
-    (c.put_name.ensures.inside c.args.root.now below all)))
+    (c.put_name.ensures.within.inside c.args.root.now below all)))
 
 pub returns-in-Err-sync-clause-inside : goal.returns-in-Err-sync-clause-inside
 returns-in-Err-sync-clause-inside g c = λ fits below all.
@@ -64,7 +64,7 @@ returns-in-Err-sync-clause-inside g c = λ fits below all.
     let looked = stays_below _ _ _ c.look_again.ensures.stays.names named in
     c.take_back_new.ensures.inside c.args.root.now looked (syncs_inside c.args.root.now c.args.folder.now.folder
     (g.D.Looks.log c.look_again.new.disk) (g.D.Looks.log c.sync.new.disk) fits c.sync.ensures.calls
-    (c.look_again.ensures.inside (stays_below _ _ _ c.put_name.ensures.names below) (c.put_name.ensures.inside
+    (c.look_again.ensures.inside (stays_below _ _ _ c.put_name.ensures.names below) (c.put_name.ensures.within.inside
     c.args.root.now below all)))
 
 pub returns-in-Err-look_again-clause-there : goal.returns-in-Err-look_again-clause-there
@@ -83,27 +83,27 @@ pub returns-in-Err-sync-clause-follows : goal.returns-in-Err-sync-clause-follows
 returns-in-Err-sync-clause-follows g c = grind (arith, common_steps)
 
 pub returns-in-Err-clause-reaches : goal.returns-in-Err-clause-reaches
-returns-in-Err-clause-reaches g c = λ reached. c.put_name.ensures.reaches c.args.root.now reached
+returns-in-Err-clause-reaches g c = λ reached. c.put_name.ensures.within.reaches c.args.root.now reached
 
 pub returns-in-Err-look_again-clause-reaches : goal.returns-in-Err-look_again-clause-reaches
 returns-in-Err-look_again-clause-reaches g c = λ reached.
     let root = c.args.root.now in
-    then_reaches _ _ _ _ (c.put_name.ensures.reaches root reached) (c.look_again.ensures.reaches root)
+    then_reaches _ _ _ _ (c.put_name.ensures.within.reaches root reached) (c.look_again.ensures.unnamed.reaches root)
 
 pub returns-in-Ok-sync-clause-reaches : goal.returns-in-Ok-sync-clause-reaches
 returns-in-Ok-sync-clause-reaches g c = λ reached.
     let root = c.args.root.now in
     let looked = g.D.Looks.log c.look_again.new.disk in
     let synced = g.D.Looks.log c.sync.new.disk in
-    then_reaches _ _ _ _ (then_reaches _ _ _ _ (c.put_name.ensures.reaches root reached) (c.look_again.ensures.reaches
+    then_reaches _ _ _ _ (then_reaches _ _ _ _ (c.put_name.ensures.within.reaches root reached) (c.look_again.ensures.unnamed.reaches
     root)) (then_reaches _ _ _ _ (looks_reach root _ _ (syncs_placed c.args.folder.now.folder looked synced
-    c.sync.ensures.calls)) (c.remove_draft.ensures.reaches root))
+    c.sync.ensures.calls)) (c.remove_draft.ensures.unnamed.reaches root))
 
 pub returns-in-Err-sync-clause-reaches : goal.returns-in-Err-sync-clause-reaches
 returns-in-Err-sync-clause-reaches g c = λ reached.
     let root = c.args.root.now in
     let looked = g.D.Looks.log c.look_again.new.disk in
     let synced = g.D.Looks.log c.sync.new.disk in
-    then_reaches _ _ _ _ (then_reaches _ _ _ _ (c.put_name.ensures.reaches root reached) (c.look_again.ensures.reaches
+    then_reaches _ _ _ _ (then_reaches _ _ _ _ (c.put_name.ensures.within.reaches root reached) (c.look_again.ensures.unnamed.reaches
     root)) (then_reaches _ _ _ _ (looks_reach root _ _ (syncs_placed c.args.folder.now.folder looked synced
-    c.sync.ensures.calls)) (c.take_back_new.ensures.reaches root))
+    c.sync.ensures.calls)) (c.take_back_new.ensures.unnamed.reaches root))

@@ -1,7 +1,6 @@
 -- The own path of a draft is removed, and no file gets a name.
-use Rattle.std.proofs.Common.{rules}
-use Rattle.tftp_folder.proofs.ReachedLemmas.{remove_reaches}
+use Rattle.tftp_folder.proofs.LeavesLemmas.{remove_unnamed}
 use Rattle.tftp_folder.proofs.naming.remove_draft.Goals as goal
 
-pub returns-in-Linked-clause-reaches : goal.returns-in-Linked-clause-reaches
-returns-in-Linked-clause-reaches g c = search (rules, remove_reaches)
+pub returns-in-Linked-clause-unnamed : goal.returns-in-Linked-clause-unnamed
+returns-in-Linked-clause-unnamed g c = remove_unnamed _ _ _ _ c.remove.ensures
