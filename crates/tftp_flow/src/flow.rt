@@ -20,10 +20,9 @@ mod seen;
 mod transfer_datagram;
 
 use crate::flow::candidate::{Candidate, Candidates};
-use crate::flow::captured_transfer::Part;
 use crate::flow::index::Index;
 use crate::flow::line::read_fields;
-use crate::flow::recent::{Owner, Recent, index_of};
+use crate::flow::recent::{Recent, index_of};
 pub use captured_transfer::{Aside, CapturedTransfer, Ending, Why};
 pub use data_line::DataLine;
 pub use json::Json;
@@ -231,7 +230,8 @@ impl Flow {
     fn candidate_of(&mut self, seen: &Seen<'_>) -> Option<Candidate>
         ensures { IsSameLines self.old self.new }
     {
-        let at_hand = self.candidate_at_hand(seen);
+        let transfers = self.transfers.as_slice();
+        let at_hand = self.recent.candidate_of(seen, &self.index, transfers);
         if at_hand.is_some() {
             return at_hand;
         }
@@ -241,30 +241,6 @@ impl Flow {
         self.look_at(self.index.of_server(seen.from), seen, &mut candidates);
         self.look_at(self.index.of_server(seen.to), seen, &mut candidates);
         candidates.chosen()
-    }
-
-    /// The transfer that a datagram belongs to, where one end alone is a client's, and it is between
-    /// the two ends of that one's newest transfer. No other transfer is chosen before this one: what
-    /// has the same two ends is older, and so is what waits for an answer there.
-    fn candidate_at_hand(&mut self, seen: &Seen<'_>) -> Option<Candidate>
-        ensures { IsSameLines self.old self.new }
-    {
-        let transfers = self.transfers.as_slice();
-        let from = self.recent.owner_of(seen.from, &self.index, transfers)?;
-        let to = self.recent.owner_of(seen.to, &self.index, transfers)?;
-        let index = match (from, to) {
-            (Owner::Client(index), Owner::Nobody) => index,
-            (Owner::Nobody, Owner::Client(index)) => index,
-            (Owner::Client(_), Owner::Client(_)) => return None,
-            (Owner::Nobody, Owner::Nobody) => return None,
-        };
-        match transfers.get(index)?.part_of(seen)? {
-            Part::Own(by) if !seen.payload.what.is_request() => Some(Candidate {
-                index,
-                part: Part::Own(by),
-            }),
-            _ => None,
-        }
     }
 
     /// Looks at the newest transfer of a client's endpoint, and at those before it.
@@ -298,50 +274,12 @@ impl Flow {
         ensures ok { IfOk result (λ assigned. Adds self.old self.new assigned) }
         ensures err { OnErr result (IsSameLines self.old self.new) }
     {
-        match candidate.part {
-            Part::Own(by) => self.give_own(candidate.index, seen, by),
-            Part::Answer => self.give_answer(candidate.index, seen),
-            Part::Beside(why) => self.give_aside(candidate.index, seen, why),
-        }
-    }
-
-    fn give_own(&mut self, index: usize, seen: &Seen<'_>, by: Party) -> Result<Assigned, AllocError>
-        ensures ok { IfOk result (λ assigned. Adds self.old self.new assigned) }
-        ensures err { OnErr result (IsSameLines self.old self.new) }
-    {
+        let Candidate { index, part } = candidate;
         let Some(transfer) = self.transfers.get_mut(index) else {
             return self.add_stray(seen);
         };
-        transfer.add(seen, by)?;
-        Ok(Assigned::Given(index))
-    }
-
-    /// Gives the first answer, whose source is the server's end.
-    fn give_answer(&mut self, index: usize, seen: &Seen<'_>) -> Result<Assigned, AllocError>
-        ensures ok { IfOk result (λ assigned. Adds self.old self.new assigned) }
-        ensures err { OnErr result (IsSameLines self.old self.new) }
-    {
-        let Some(transfer) = self.transfers.get(index) else {
-            return self.add_stray(seen);
-        };
-        let number = transfer.number;
-        self.index.add_server(seen.from, number)?;
-        self.give_own(index, seen, Party::Server)
-    }
-
-    fn give_aside(
-        &mut self,
-        index: usize,
-        seen: &Seen<'_>,
-        why: Why,
-    ) -> Result<Assigned, AllocError>
-        ensures ok { IfOk result (λ assigned. Adds self.old self.new assigned) }
-        ensures err { OnErr result (IsSameLines self.old self.new) }
-    {
-        let Some(transfer) = self.transfers.get_mut(index) else {
-            return self.add_stray(seen);
-        };
-        transfer.add_aside(seen, why)?;
+        self.index.add_source(part, seen.from, transfer.number)?;
+        transfer.add(seen, part)?;
         Ok(Assigned::Given(index))
     }
 
@@ -350,12 +288,11 @@ impl Flow {
         ensures err { OnErr result (IsSameLines self.old self.new) }
     {
         let number = self.begun.saturating_add(1);
-        let mut transfer = CapturedTransfer::new(self.alloc, number, seen)?;
+        let before = self.index.of_client(seen.from);
         self.recent.open()?;
         self.recent.forget(seen.from);
-        let before = self.index.of_client(seen.from);
-        transfer.before = before;
         self.index.add_client(seen.from, number)?;
+        let transfer = CapturedTransfer::new(self.alloc, number, before, seen)?;
         self.transfers.push(transfer)?;
         self.link(before, number);
         self.begun = number;

@@ -7,7 +7,7 @@ ghost use Rattle.tftp_flow.specs.CapturedTransfer.{is_open, is_silent, reported}
 use crate::flow::moment::{Moment, Span};
 use crate::flow::payload::Payload;
 use crate::flow::seen::{Seen, Spot, is_same_endpoint};
-use crate::flow::transfer_datagram::{Party, TransferDatagram, What};
+use crate::flow::transfer_datagram::{Party, TransferDatagram, What, index_of_same};
 use std::alloc::{AllocError, Global};
 use std::fmt;
 use std::net::SocketAddrV4;
@@ -43,7 +43,7 @@ pub struct Aside {
 }
 
 /// Why a datagram is not of the transfer whose port it has.
-#[derive(Clone, Copy, PartialEq, Eq)]
+#[derive(Clone, Copy)]
 pub enum Why {
     /// It comes from another port of the server's host than the first answer.
     SecondPort,
@@ -55,11 +55,11 @@ pub enum Why {
 
 impl fmt::Display for Why {
     fn fmt<W: fmt::Write>(&self, f: &mut fmt::Formatter<W>) -> fmt::Result {
-        match self {
-            Why::SecondPort => write!(f, "an answer from a second port"),
-            Why::Stranger => write!(f, "a stranger"),
-            Why::ToAnother => write!(f, "to a stranger"),
-        }
+        f.write_str(match self {
+            Why::SecondPort => "an answer from a second port",
+            Why::Stranger => "a stranger",
+            Why::ToAnother => "to a stranger",
+        })
     }
 }
 
@@ -115,6 +115,10 @@ pub struct CapturedTransfer {
     pub datagrams: Vec<TransferDatagram>,
     /// The datagrams that have a port of the transfer and are not of it.
     pub asides: Vec<Aside>,
+    /// The number of its datagrams that were sent again.
+    pub(crate) again: usize,
+    /// The number of its datagrams of which the beginning alone was seen.
+    pub(crate) cut: usize,
     newest_data: Option<u16>,
     newest_ack: Option<u16>,
     /// The last block, once a short one was seen.
@@ -130,15 +134,17 @@ pub struct CapturedTransfer {
 }
 
 impl CapturedTransfer {
-    /// The transfer that a request begins.
+    /// The transfer that a request begins; `before` is the last one from the client's endpoint.
     pub(crate) fn new(
         alloc: Global,
         number: u64,
+        before: Option<u64>,
         seen: &Seen<'_>,
     ) -> Result<CapturedTransfer, AllocError>
         ensures { IfOk result (λ transfer. given_to transfer ≡ 1) }
     {
         let what = seen.payload.what;
+        let is_cut = seen.payload.is_cut();
         let request = seen.payload.line(alloc)?;
         let request_bytes = Vec::from_slice(alloc, seen.payload.bytes)?;
         let mut datagrams = Vec::new(alloc);
@@ -148,12 +154,12 @@ impl CapturedTransfer {
             by: Party::Client,
             what,
             gap: None,
-            is_cut: seen.payload.is_cut(),
+            is_cut,
         })?;
         Ok(CapturedTransfer {
             alloc,
             number,
-            before: None,
+            before,
             after: None,
             client: seen.from,
             asked_at: seen.to,
@@ -168,6 +174,8 @@ impl CapturedTransfer {
             block_size: DEFAULT_BLOCK,
             datagrams,
             asides: Vec::new(alloc),
+            again: 0,
+            cut: usize::from(is_cut),
             newest_data: None,
             newest_ack: None,
             last_block: None,
@@ -235,32 +243,48 @@ impl CapturedTransfer {
         }
     }
 
+    /// Adds a datagram that belongs to it so.
+    pub(crate) fn add(&mut self, seen: &Seen<'_>, part: Part) -> Result<(), AllocError>
+        ensures ok { OnOk result (given_to self.new ≡ given_to self.old + 1) }
+        ensures err { OnErr result (given_to self.new ≡ given_to self.old) }
+    {
+        match part {
+            Part::Own(by) => self.add_own(seen, by),
+            Part::Answer => self.add_own(seen, Party::Server),
+            Part::Beside(why) => self.add_aside(seen, why),
+        }
+    }
+
     /// Adds a datagram that one end sent.
-    pub(crate) fn add(&mut self, seen: &Seen<'_>, by: Party) -> Result<(), AllocError>
+    fn add_own(&mut self, seen: &Seen<'_>, by: Party) -> Result<(), AllocError>
         ensures ok { OnOk result (given_to self.new ≡ given_to self.old + 1) }
         ensures err { OnErr result (given_to self.new ≡ given_to self.old) }
     {
         let what = seen.payload.what;
-        let gap = self.gap_of(seen.at, what, by);
-        self.learn_text(&seen.payload, by)?;
-        self.datagrams.push(TransferDatagram {
+        let datagram = TransferDatagram {
             spot: seen.spot,
             at: seen.at,
             by,
             what,
-            gap,
+            gap: self.gap_of(seen.at, what, by),
             is_cut: seen.payload.is_cut(),
-        })?;
+        };
+        self.learn_text(&seen.payload, by)?;
+        self.datagrams.push(datagram)?;
         self.newest = self.newest.later(seen.at);
         if by == Party::Server && self.server.is_none() {
             self.server = Some(seen.from);
         }
-        self.learn(what, by, gap);
+        self.again = self
+            .again
+            .saturating_add(usize::from(datagram.gap.is_some()));
+        self.cut = self.cut.saturating_add(usize::from(datagram.is_cut));
+        self.learn(what, by, datagram.gap);
         Ok(())
     }
 
     /// Adds a datagram that has one of its ports and is not of it.
-    pub(crate) fn add_aside(&mut self, seen: &Seen<'_>, why: Why) -> Result<(), AllocError>
+    fn add_aside(&mut self, seen: &Seen<'_>, why: Why) -> Result<(), AllocError>
         ensures ok { OnOk result (given_to self.new ≡ given_to self.old + 1) }
         ensures err { OnErr result (given_to self.new ≡ given_to self.old) }
     {
@@ -287,12 +311,9 @@ impl CapturedTransfer {
         if is_new {
             return None;
         }
-        let before = self
-            .datagrams
-            .iter()
-            .rev()
-            .take(LOOK_BACK)
-            .find(|datagram| datagram.by == by && datagram.what == what)?;
+        let all = self.datagrams.as_slice();
+        let newest = all.get(all.len().saturating_sub(LOOK_BACK)..)?;
+        let before = newest.get(index_of_same(newest, by, what)?)?;
         Some(at.since(before.at))
     }
 
@@ -406,7 +427,7 @@ impl CapturedTransfer {
     }
 
     /// The datagrams of it and beside it.
-    fn len(&self) -> usize
+    pub(crate) fn len(&self) -> usize
         ensures { result ≡ given_to self.now }
     {
         self.datagrams.len().saturating_add(self.asides.len())
@@ -417,16 +438,6 @@ impl CapturedTransfer {
         ensures { result ≡ is_silent at self.now }
     {
         at.since(self.newest).exceeds(self.silence)
-    }
-
-    /// The number of its datagrams that were sent again.
-    pub(crate) fn again(&self) -> usize {
-        self.datagrams.iter().filter(|it| it.gap.is_some()).count()
-    }
-
-    /// The number of its datagrams of which the beginning alone was seen.
-    pub(crate) fn cut(&self) -> usize {
-        self.datagrams.iter().filter(|it| it.is_cut).count()
     }
 
     /// How long after its request its last datagram was seen.

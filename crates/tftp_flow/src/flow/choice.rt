@@ -1,7 +1,7 @@
 //! Which datagrams of a transfer are drawn: all if each has a row, or else the first, the last and
 //! those around a repeat.
 
-use crate::flow::transfer_datagram::TransferDatagram;
+use crate::flow::transfer_datagram::{TransferDatagram, index_of_same};
 use std::alloc::{AllocError, Global};
 
 /// The datagrams at the start of a long transfer that are drawn.
@@ -85,7 +85,7 @@ impl Choice {
         if self.has(index) {
             return;
         }
-        let is_after = index.checked_sub(1).is_some_and(|before| self.has(before));
+        let is_after = index > 0 && self.has(index - 1);
         let is_before = self.has(index.saturating_add(1));
         let rows = match (is_after, is_before) {
             (true, true) => 0,
@@ -99,14 +99,14 @@ impl Choice {
     }
 }
 
-/// The newest datagram before this one that it repeats.
+/// The newest datagram before this one that it repeats, and its index.
 fn repeated_by<'e>(
     datagrams: &'e [TransferDatagram],
     index: usize,
     datagram: &TransferDatagram,
 ) -> Option<(usize, &'e TransferDatagram)> {
-    let mut earlier = datagrams.iter().enumerate().take(index).rev();
-    earlier.find(|(_, it)| it.by == datagram.by && it.what == datagram.what)
+    let before = index_of_same(datagrams.get(..index)?, datagram.by, datagram.what)?;
+    Some((before, datagrams.get(before)?))
 }
 
 /// The first datagram of the other end after this one that repeats nothing.
@@ -115,10 +115,9 @@ fn answer_to(
     index: usize,
     datagram: &TransferDatagram,
 ) -> Option<usize> {
-    datagrams
+    let later = datagrams.get(index..)?;
+    let answer = later
         .iter()
-        .enumerate()
-        .skip(index)
-        .find(|(_, after)| after.by != datagram.by && after.gap.is_none())
-        .map(|(answer, _)| answer)
+        .position(|after| after.by != datagram.by && after.gap.is_none())?;
+    Some(index.saturating_add(answer))
 }

@@ -3,7 +3,7 @@
 use std::fmt;
 
 /// The line of a DATA, which has no more of it than its number and its length.
-#[derive(Clone, Copy, PartialEq, Eq)]
+#[derive(Clone, Copy)]
 pub struct DataLine {
     /// The number of the block.
     pub block: u16,

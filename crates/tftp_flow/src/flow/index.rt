@@ -1,6 +1,6 @@
 //! Which transfers an endpoint has, by their numbers.
 
-use crate::flow::captured_transfer::CapturedTransfer;
+use crate::flow::captured_transfer::{CapturedTransfer, Part};
 use crate::flow::moment::Moment;
 use crate::flow::recent::index_of;
 use std::alloc::{AllocError, Global};
@@ -38,9 +38,16 @@ impl Index {
         Ok(())
     }
 
-    /// Notes the newest transfer of a server's endpoint.
-    pub(crate) fn add_server(&mut self, at: SocketAddrV4, number: u64) -> Result<(), AllocError> {
-        self.servers.insert(at, number)?;
+    /// Notes the newest transfer of a server's endpoint: the source of the first answer.
+    pub(crate) fn add_source(
+        &mut self,
+        part: Part,
+        from: SocketAddrV4,
+        number: u64,
+    ) -> Result<(), AllocError> {
+        if let Part::Answer = part {
+            self.servers.insert(from, number)?;
+        }
         Ok(())
     }
 

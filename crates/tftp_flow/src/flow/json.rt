@@ -11,34 +11,40 @@ pub struct Json<'t>(pub &'t CapturedTransfer);
 
 impl fmt::Display for Json<'_> {
     fn fmt<W: fmt::Write>(&self, f: &mut fmt::Formatter<W>) -> fmt::Result {
+        self.write_request(f)?;
+        self.write_answer(f)?;
+        self.write_counts(f)?;
+        self.write_ending(f)
+    }
+}
+
+impl Json<'_> {
+    fn write_request<W: fmt::Write>(&self, f: &mut fmt::Formatter<W>) -> fmt::Result {
         let (number, client, asked) = (self.0.number, self.0.client, self.0.asked_at);
         let kind = match self.0.sender() {
             Party::Server => "read",
             Party::Client => "write",
         };
-        write!(f, "{{\"transfer\":{number},\"kind\":\"{kind}\"")?;
-        write!(f, ",\"client\":\"{client}\",\"asked\":\"{asked}\"")?;
-        self.write_answer(f)?;
-        self.write_counts(f)?;
-        self.write_times(f)?;
-        self.write_ending(f)?;
-        write!(f, "}}")
+        write!(
+            f,
+            "{{\"transfer\":{number},\"kind\":\"{kind}\",\"client\":\"{client}\",\"asked\":\"{asked}\""
+        )
     }
-}
 
-impl Json<'_> {
     fn write_answer<W: fmt::Write>(&self, f: &mut fmt::Formatter<W>) -> fmt::Result {
-        write!(f, ",\"server\":")?;
-        write_endpoint(self.0.server, f)?;
-        let request = Quoted(self.0.request.as_str());
-        write!(f, ",\"request\":{request},\"agreed\":")?;
-        match &self.0.agreed {
-            Some(agreed) => {
-                let agreed = Quoted(agreed.as_str());
-                write!(f, "{agreed}")
-            }
-            None => write!(f, "null"),
-        }
+        let server = match self.0.server {
+            Some(server) => Value::Endpoint(server),
+            None => Value::Null,
+        };
+        let request = Value::Text(self.0.request.as_str());
+        let agreed = match &self.0.agreed {
+            Some(agreed) => Value::Text(agreed.as_str()),
+            None => Value::Null,
+        };
+        write!(
+            f,
+            ",\"server\":{server},\"request\":{request},\"agreed\":{agreed}"
+        )
     }
 
     fn write_counts<W: fmt::Write>(&self, f: &mut fmt::Formatter<W>) -> fmt::Result {
@@ -47,53 +53,59 @@ impl Json<'_> {
             f,
             ",\"block_size\":{size},\"blocks\":{blocks},\"bytes\":{bytes}"
         )?;
-        let (datagrams, again) = (self.0.datagrams.len(), self.0.again());
-        write!(f, ",\"datagrams\":{datagrams},\"again\":{again}")?;
-        let (beside, cut) = (self.0.asides.len(), self.0.cut());
-        write!(f, ",\"beside\":{beside},\"cut\":{cut}")
-    }
-
-    fn write_times<W: fmt::Write>(&self, f: &mut fmt::Formatter<W>) -> fmt::Result {
-        let (began, lasted) = (self.0.began, self.0.lasted());
-        write!(f, ",\"began\":{began},\"seconds\":{lasted}")
+        let (datagrams, again) = (self.0.datagrams.len(), self.0.again);
+        let (beside, cut) = (self.0.asides.len(), self.0.cut);
+        write!(
+            f,
+            ",\"datagrams\":{datagrams},\"again\":{again},\"beside\":{beside},\"cut\":{cut}"
+        )
     }
 
     fn write_ending<W: fmt::Write>(&self, f: &mut fmt::Formatter<W>) -> fmt::Result {
+        let (began, lasted) = (self.0.began, self.0.lasted());
+        write!(f, ",\"began\":{began},\"seconds\":{lasted}")?;
         match &self.0.ending {
-            Ending::Open => write!(f, ",\"ended\":\"open\",\"error\":null,\"by\":null"),
-            Ending::Complete => write!(f, ",\"ended\":\"complete\",\"error\":null,\"by\":null"),
+            Ending::Open => f.write_str(",\"ended\":\"open\",\"error\":null,\"by\":null}"),
+            Ending::Complete => {
+                f.write_str(",\"ended\":\"complete\",\"error\":null,\"by\":null}")
+            }
             Ending::Error { by, text } => {
-                let text = Quoted(text.as_str());
-                write!(f, ",\"ended\":\"error\",\"error\":{text},\"by\":\"{by}\"")
+                let error = Value::Text(text.as_str());
+                write!(
+                    f,
+                    ",\"ended\":\"error\",\"error\":{error},\"by\":\"{by}\"}}"
+                )
             }
         }
     }
 }
 
-fn write_endpoint<W: fmt::Write>(
-    endpoint: Option<SocketAddrV4>,
-    f: &mut fmt::Formatter<W>,
-) -> fmt::Result {
-    match endpoint {
-        Some(endpoint) => write!(f, "\"{endpoint}\""),
-        None => write!(f, "null"),
-    }
-}
-
-/// A text in quotes. The texts of datagrams are visible ASCII and spaces.
+/// A value that may be missing.
 #[derive(Clone, Copy)]
-struct Quoted<'t>(&'t str);
+enum Value<'t> {
+    Null,
+    Endpoint(SocketAddrV4),
+    Text(&'t str),
+}
 
-impl fmt::Display for Quoted<'_> {
+impl fmt::Display for Value<'_> {
     fn fmt<W: fmt::Write>(&self, f: &mut fmt::Formatter<W>) -> fmt::Result {
-        write!(f, "\"")?;
-        for c in self.0.chars() {
-            match c {
-                '"' => write!(f, "\\\"")?,
-                '\\' => write!(f, "\\\\")?,
-                _ => write!(f, "{c}")?,
-            }
+        match *self {
+            Value::Null => f.write_str("null"),
+            Value::Endpoint(endpoint) => write!(f, "\"{endpoint}\""),
+            Value::Text(text) => write_quoted(text, f),
         }
-        write!(f, "\"")
     }
+}
+
+/// Writes a text in quotes. The texts of datagrams are visible ASCII and spaces.
+fn write_quoted<W: fmt::Write>(text: &str, f: &mut fmt::Formatter<W>) -> fmt::Result {
+    f.write_char('"')?;
+    for c in text.chars() {
+        if matches!(c, '"' | '\\') {
+            f.write_char('\\')?;
+        }
+        f.write_char(c)?;
+    }
+    f.write_char('"')
 }

@@ -16,7 +16,7 @@ pub(crate) struct Line {
 }
 
 /// Why a line of a capture is not read.
-#[derive(Clone, Copy, PartialEq, Eq)]
+#[derive(Clone, Copy)]
 pub enum LineFault {
     /// It has not six fields of text.
     Fields,
@@ -32,16 +32,13 @@ pub enum LineFault {
 
 impl fmt::Display for LineFault {
     fn fmt<W: fmt::Write>(&self, f: &mut fmt::Formatter<W>) -> fmt::Result {
-        match self {
-            LineFault::Fields => write!(
-                f,
-                "not six fields: time, address, port, address, port, payload"
-            ),
-            LineFault::Time => write!(f, "not a time in seconds"),
-            LineFault::Address => write!(f, "not one IPv4 address each"),
-            LineFault::Port => write!(f, "not one port each"),
-            LineFault::Payload => write!(f, "not a payload in hexadecimal digits"),
-        }
+        f.write_str(match self {
+            LineFault::Fields => "not six fields: time, address, port, address, port, payload",
+            LineFault::Time => "not a time in seconds",
+            LineFault::Address => "not one IPv4 address each",
+            LineFault::Port => "not one port each",
+            LineFault::Payload => "not a payload in hexadecimal digits",
+        })
     }
 }
 

@@ -12,11 +12,11 @@ const DIGITS: usize = 6;
 const SECOND: u64 = 1_000_000;
 
 /// A moment of a capture, in microseconds: since 1970, or since the capture began.
-#[derive(Clone, Copy, PartialEq, Eq)]
+#[derive(Clone, Copy)]
 pub struct Moment(u64);
 
 /// How long something lasted, in microseconds.
-#[derive(Clone, Copy, PartialEq, Eq)]
+#[derive(Clone, Copy)]
 pub struct Span(u64);
 
 impl Moment {

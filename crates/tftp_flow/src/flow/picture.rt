@@ -19,6 +19,8 @@ struct Picture {
     ports: Vec<SocketAddrV4>,
     /// The datagrams since the last row that are not drawn.
     skipped: u64,
+    /// Whether a datagram was drawn that opens the server's end.
+    is_opened: bool,
 }
 
 /// What the endpoint of a lane is.
@@ -34,29 +36,22 @@ enum LaneRole {
 }
 
 impl LaneRole {
-    fn host(self) -> Host {
-        match self {
-            LaneRole::ReadingClient | LaneRole::WritingClient => Host::Client,
-            LaneRole::ServedRead | LaneRole::ServedWrite | LaneRole::RequestPort => Host::Server,
-            LaneRole::Stranger => Host::Stranger,
+    /// The lane of an endpoint with this name.
+    fn lane(self, name: String) -> Lane {
+        let (host, role, is_end) = match self {
+            LaneRole::ReadingClient => (Host::Client, "client, reads", true),
+            LaneRole::WritingClient => (Host::Client, "client, writes", true),
+            LaneRole::ServedRead => (Host::Server, "server, a read", true),
+            LaneRole::ServedWrite => (Host::Server, "server, a write", true),
+            LaneRole::RequestPort => (Host::Server, "request port", false),
+            LaneRole::Stranger => (Host::Stranger, "stranger", false),
+        };
+        Lane {
+            host,
+            name,
+            role,
+            is_end,
         }
-    }
-
-    /// How the lane is named.
-    fn text(self) -> &'static str {
-        match self {
-            LaneRole::ReadingClient => "client, reads",
-            LaneRole::WritingClient => "client, writes",
-            LaneRole::ServedRead => "server, a read",
-            LaneRole::ServedWrite => "server, a write",
-            LaneRole::RequestPort => "request port",
-            LaneRole::Stranger => "stranger",
-        }
-    }
-
-    /// Whether an end of the transfer is there.
-    fn is_end(self) -> bool {
-        !matches!(self, LaneRole::RequestPort | LaneRole::Stranger)
     }
 }
 
@@ -64,7 +59,11 @@ impl CapturedTransfer {
     /// Its picture. Of a long transfer the first and the last datagrams are drawn, and those around
     /// one that was sent again.
     pub(crate) fn diagram(&self) -> Result<Diagram, AllocError> {
-        Picture::new(self.alloc(), self.title()?, self.summary()?).of_transfer(self)
+        let mut picture = Picture::new(self.alloc(), self.title()?);
+        match picture.draw(self) {
+            Ok(()) => Ok(picture.diagram),
+            Err(fault) => Err(fault),
+        }
     }
 
     fn title(&self) -> Result<String, AllocError> {
@@ -73,41 +72,38 @@ impl CapturedTransfer {
         shortened(self.alloc(), title)
     }
 
-    /// What the picture shows, and how much was sent.
-    fn summary(&self) -> Result<String, AllocError> {
+    /// Writes what the picture shows, and how much was sent.
+    fn write_summary(&self, out: &mut String) -> Result<(), AllocError> {
         let seen = Count {
-            number: (self.datagrams.len() as u64).saturating_add(self.asides.len() as u64),
+            number: self.len() as u64,
             name: "datagram",
         };
-        let mut text = seen.to_string(self.alloc())?;
-        let again = self.again();
+        write!(out, "{seen}")?;
+        let again = self.again;
         if again > 0 {
-            write!(text, ", {again} of them sent again")?;
+            write!(out, ", {again} of them sent again")?;
         }
         let beside = self.asides.len();
         if beside > 0 {
-            write!(text, ", {beside} beside it")?;
+            write!(out, ", {beside} beside it")?;
         }
         let (blocks, bytes) = (self.block_count(), self.byte_count());
-        write!(text, ": {blocks}, {bytes}.")?;
-        Ok(text)
+        write!(out, ": {blocks}, {bytes}.")
     }
 
     /// The line of a datagram, as a label.
     fn label_of(&self, datagram: &TransferDatagram) -> Result<String, AllocError> {
-        let line = self.line_of(datagram)?;
-        if !datagram.is_cut {
-            return shortened(self.alloc(), line);
-        }
-        let line = format!(in self.alloc(); "{line} (its beginning)")?;
+        let what = datagram.what;
+        let note = if datagram.is_cut {
+            " (its beginning)"
+        } else {
+            ""
+        };
+        let line = match self.kept_line_of(datagram) {
+            Some(line) => format!(in self.alloc(); "{line}{note}")?,
+            None => format!(in self.alloc(); "{what}{note}")?,
+        };
         shortened(self.alloc(), line)
-    }
-
-    fn line_of(&self, datagram: &TransferDatagram) -> Result<String, AllocError> {
-        match self.kept_line_of(datagram) {
-            Some(line) => String::from_str(self.alloc(), line),
-            None => datagram.what.to_string(self.alloc()),
-        }
     }
 
     /// The line of a datagram where it was kept.
@@ -143,12 +139,12 @@ impl CapturedTransfer {
 }
 
 impl Picture {
-    fn new(alloc: Global, title: String, summary: String) -> Picture {
+    fn new(alloc: Global, title: String) -> Picture {
         Picture {
             alloc,
             diagram: Diagram {
                 title,
-                summary,
+                summary: String::new(alloc),
                 lanes: Vec::new(alloc),
                 flights: Vec::new(alloc),
                 marks: Vec::new(alloc),
@@ -159,18 +155,12 @@ impl Picture {
             },
             ports: Vec::new(alloc),
             skipped: 0,
-        }
-    }
-
-    /// The picture of a transfer, of which nothing is drawn yet.
-    fn of_transfer(mut self, transfer: &CapturedTransfer) -> Result<Diagram, AllocError> {
-        match self.draw(transfer) {
-            Ok(()) => Ok(self.diagram),
-            Err(fault) => Err(fault),
+            is_opened: false,
         }
     }
 
     fn draw(&mut self, transfer: &CapturedTransfer) -> Result<(), AllocError> {
+        transfer.write_summary(&mut self.diagram.summary)?;
         self.add_ends(transfer)?;
         let rows = usize::from(MAX_ROWS).saturating_sub(transfer.asides.len());
         let choice = Choice::new(self.alloc, transfer.datagrams.as_slice(), rows)?;
@@ -215,12 +205,8 @@ impl Picture {
     }
 
     fn add_lane(&mut self, at: SocketAddrV4, role: LaneRole) -> Result<(), AllocError> {
-        self.diagram.lanes.push(Lane {
-            host: role.host(),
-            name: format!(in self.alloc; "{at}")?,
-            role: role.text(),
-            is_end: role.is_end(),
-        })?;
+        let lane = role.lane(at.to_string(self.alloc)?);
+        self.diagram.lanes.push(lane)?;
         self.ports.push(at)?;
         Ok(())
     }
@@ -235,8 +221,17 @@ impl Picture {
         Ok(lane)
     }
 
-    /// The next row, if one is left. Before it there is one for what is not drawn.
-    fn next_row(&mut self, time: String) -> Result<Option<Row>, AllocError> {
+    /// The lanes of two endpoints.
+    fn lanes_of(
+        &mut self,
+        from: SocketAddrV4,
+        to: SocketAddrV4,
+    ) -> Result<(usize, usize), AllocError> {
+        Ok((self.lane_of(from)?, self.lane_of(to)?))
+    }
+
+    /// The next row, at this time, if one is left. Before it there is one for what is not drawn.
+    fn next_row(&mut self, time: Span) -> Result<Option<Row>, AllocError> {
         if self.skipped > 0 && self.diagram.rows < MAX_ROWS {
             let skipped = self.skipped;
             let text = format!(in self.alloc; "({skipped} not drawn)")?;
@@ -249,7 +244,7 @@ impl Picture {
             return Ok(None);
         }
         let row = self.diagram.rows;
-        self.diagram.times.push(time)?;
+        self.diagram.times.push(time.to_string(self.alloc)?)?;
         self.diagram.rows += 1;
         Ok(Some(row))
     }
@@ -260,25 +255,37 @@ impl Picture {
         transfer: &CapturedTransfer,
         datagram: &TransferDatagram,
     ) -> Result<(), AllocError> {
-        let time = transfer.time_of(datagram.at).to_string(self.alloc)?;
-        let Some(sent) = self.next_row(time)? else {
+        let Some(sent) = self.next_row(transfer.time_of(datagram.at))? else {
             return Ok(());
         };
         let opened_at = self.opened_by(transfer, datagram)?;
-        let (from, to) = transfer.way_of(datagram);
-        let (from, to) = (self.lane_of(from)?, self.lane_of(to)?);
-        let flight = Flight {
+        let way = transfer.way_of(datagram);
+        let label = transfer.label_of(datagram)?;
+        self.add_flight(way, sent, label, opened_at, datagram.gap)
+    }
+
+    /// Adds a datagram between two endpoints, whose line this is.
+    fn add_flight(
+        &mut self,
+        (from, to): (SocketAddrV4, SocketAddrV4),
+        sent: Row,
+        label: String,
+        opened_at: Option<usize>,
+        gap: Option<Span>,
+    ) -> Result<(), AllocError> {
+        let (from, to) = self.lanes_of(from, to)?;
+        let again = self.note_of(gap)?;
+        self.diagram.flights.push(Flight {
             from,
             to,
-            label: transfer.label_of(datagram)?,
-            again: self.note_of(datagram.gap)?,
+            label,
+            again,
             opened_at,
             sent,
-            course: course_of(datagram.gap),
+            course: course_of(gap),
             arrivals: Vec::new(self.alloc),
             arrives_later: false,
-        };
-        self.diagram.flights.push(flight)?;
+        })?;
         Ok(())
     }
 
@@ -289,12 +296,13 @@ impl Picture {
         transfer: &CapturedTransfer,
         datagram: &TransferDatagram,
     ) -> Result<Option<usize>, AllocError> {
-        if datagram.by == Party::Client || self.has_answer() {
+        if datagram.by == Party::Client || self.is_opened {
             return Ok(None);
         }
         if transfer.server_end() == transfer.asked_at {
             return Ok(None);
         }
+        self.is_opened = true;
         Ok(Some(self.lane_of(transfer.asked_at)?))
     }
 
@@ -304,14 +312,6 @@ impl Picture {
             Some(gap) => format!(in self.alloc; "again after {gap} s"),
             None => Ok(String::new(self.alloc)),
         }
-    }
-
-    /// Whether a datagram of the server was drawn.
-    fn has_answer(&self) -> bool {
-        self.diagram
-            .flights
-            .iter()
-            .any(|flight| flight.opened_at.is_some())
     }
 
     /// Adds the datagrams that are not of the transfer, of the lines between two.
@@ -331,23 +331,11 @@ impl Picture {
     }
 
     fn add_aside(&mut self, transfer: &CapturedTransfer, aside: &Aside) -> Result<(), AllocError> {
-        let time = transfer.time_of(aside.at).to_string(self.alloc)?;
-        let Some(sent) = self.next_row(time)? else {
+        let Some(sent) = self.next_row(transfer.time_of(aside.at))? else {
             return Ok(());
         };
-        let flight = Flight {
-            from: self.lane_of(aside.from)?,
-            to: self.lane_of(aside.to)?,
-            label: shortened(self.alloc, aside.text.clone()?)?,
-            again: String::new(self.alloc),
-            opened_at: None,
-            sent,
-            course: Course::Seen,
-            arrivals: Vec::new(self.alloc),
-            arrives_later: false,
-        };
-        self.diagram.flights.push(flight)?;
-        Ok(())
+        let label = shortened(self.alloc, aside.text.clone()?)?;
+        self.add_flight((aside.from, aside.to), sent, label, None, None)
     }
 
     /// Marks both ends as closed, if the transfer ended.
@@ -357,8 +345,7 @@ impl Picture {
             Ending::Error { .. } => (MarkKind::Failed, "ended by ERROR"),
             Ending::Open => return Ok(()),
         };
-        let server = transfer.server_end();
-        let (client, server) = (self.lane_of(transfer.client)?, self.lane_of(server)?);
+        let (client, server) = self.lanes_of(transfer.client, transfer.server_end())?;
         let row = self.diagram.rows.saturating_sub(1);
         for (lane, other) in [(client, server), (server, client)] {
             let text = String::from_str(self.alloc, text)?;

@@ -1,9 +1,10 @@
 //! Who has the endpoints of the last datagrams, so that the next ones between them are assigned at
 //! once.
 
-use crate::flow::captured_transfer::CapturedTransfer;
+use crate::flow::candidate::Candidate;
+use crate::flow::captured_transfer::{CapturedTransfer, Part};
 use crate::flow::index::Index;
-use crate::flow::seen::is_same_endpoint;
+use crate::flow::seen::{Seen, is_same_endpoint};
 use std::alloc::{AllocError, Global};
 use std::net::SocketAddrV4;
 
@@ -12,7 +13,7 @@ const BITS: u32 = 10;
 
 /// Who has an endpoint.
 #[derive(Clone, Copy)]
-pub(crate) enum Owner {
+enum Owner {
     /// No client.
     Nobody,
     /// A client, whose newest transfer from there has this index.
@@ -44,8 +45,36 @@ impl Recent {
         self.known.resize(1 << BITS, None)
     }
 
+    /// The transfer that a datagram belongs to, where one end alone is a client's, and it is between
+    /// the two ends of that one's newest transfer. No other transfer is chosen before this one: what
+    /// has the same two ends is older, and so is what waits for an answer there.
+    pub(crate) fn candidate_of(
+        &mut self,
+        seen: &Seen<'_>,
+        index: &Index,
+        transfers: &[CapturedTransfer],
+    ) -> Option<Candidate> {
+        if seen.payload.what.is_request() {
+            return None;
+        }
+        let from = self.owner_of(seen.from, index, transfers)?;
+        let to = self.owner_of(seen.to, index, transfers)?;
+        let index = match (from, to) {
+            (Owner::Client(index), Owner::Nobody) => index,
+            (Owner::Nobody, Owner::Client(index)) => index,
+            _ => return None,
+        };
+        match transfers.get(index)?.part_of(seen)? {
+            Part::Own(by) => Some(Candidate {
+                index,
+                part: Part::Own(by),
+            }),
+            _ => None,
+        }
+    }
+
     /// The owner of an endpoint, by what is remembered or else by the index.
-    pub(crate) fn owner_of(
+    fn owner_of(
         &mut self,
         at: SocketAddrV4,
         index: &Index,

@@ -1,7 +1,7 @@
 //! What is printed of a capture: a line for what belongs to no transfer, and some for a transfer.
 
 use crate::flow::captured_transfer::{Aside, CapturedTransfer, Ending};
-use crate::flow::transfer_datagram::{Party, TransferDatagram};
+use crate::flow::transfer_datagram::Party;
 use crate::flow::{Stray, Unread};
 use std::fmt;
 
@@ -34,19 +34,14 @@ impl fmt::Display for Aside {
 /// The report of a transfer, some lines.
 impl fmt::Display for CapturedTransfer {
     fn fmt<W: fmt::Write>(&self, f: &mut fmt::Formatter<W>) -> fmt::Result {
-        self.write_ends(f)?;
-        let request = self.request.as_str();
-        writeln!(f, "\n  asked    {request}")?;
+        let (ends, request) = (Ends(self), self.request.as_str());
+        writeln!(f, "{ends}\n  asked    {request}")?;
         self.write_answer(f)?;
         self.write_moved(f)?;
-        self.write_cut(f)?;
         self.write_repeats(f)?;
-        for aside in &self.asides {
-            writeln!(f, "  beside   {aside}")?;
-        }
-        write!(f, "  ended    ")?;
-        self.write_ending(f)?;
-        writeln!(f)
+        self.write_asides(f)?;
+        let conclusion = Conclusion(self);
+        writeln!(f, "  ended    {conclusion}")
     }
 }
 
@@ -56,9 +51,8 @@ pub struct Opened<'t>(pub &'t CapturedTransfer);
 
 impl fmt::Display for Opened<'_> {
     fn fmt<W: fmt::Write>(&self, f: &mut fmt::Formatter<W>) -> fmt::Result {
-        self.0.write_ends(f)?;
-        let request = self.0.request.as_str();
-        write!(f, ": {request}")
+        let (ends, request) = (Ends(self.0), self.0.request.as_str());
+        write!(f, "{ends}: {request}")
     }
 }
 
@@ -68,93 +62,122 @@ pub struct Ended<'t>(pub &'t CapturedTransfer);
 
 impl fmt::Display for Ended<'_> {
     fn fmt<W: fmt::Write>(&self, f: &mut fmt::Formatter<W>) -> fmt::Result {
-        let number = self.0.number;
-        write!(f, "transfer {number}: ")?;
-        self.0.write_ending(f)?;
+        let (number, again) = (self.0.number, self.0.again);
+        let (conclusion, moved) = (Conclusion(self.0), Moved(self.0));
+        write!(
+            f,
+            "transfer {number}: {conclusion}; {moved}, {again} sent again"
+        )
+    }
+}
+
+/// The number of a transfer, and which end does what.
+#[derive(Clone, Copy)]
+struct Ends<'t>(&'t CapturedTransfer);
+
+impl fmt::Display for Ends<'_> {
+    fn fmt<W: fmt::Write>(&self, f: &mut fmt::Formatter<W>) -> fmt::Result {
+        let CapturedTransfer {
+            number,
+            client,
+            asked_at,
+            ..
+        } = self.0;
+        let does = match self.0.sender() {
+            Party::Server => "reads from",
+            Party::Client => "writes to",
+        };
+        write!(f, "transfer {number}: {client} {does} {asked_at}")
+    }
+}
+
+/// How much was sent, and how long it took.
+#[derive(Clone, Copy)]
+struct Moved<'t>(&'t CapturedTransfer);
+
+impl fmt::Display for Moved<'_> {
+    fn fmt<W: fmt::Write>(&self, f: &mut fmt::Formatter<W>) -> fmt::Result {
         let (blocks, bytes) = (self.0.block_count(), self.0.byte_count());
-        let (time, again) = (self.0.lasted(), self.0.again());
-        write!(f, "; {blocks}, {bytes} in {time} s, {again} sent again")
+        let time = self.0.lasted();
+        write!(f, "{blocks}, {bytes} in {time} s")
+    }
+}
+
+/// How a transfer ended. Of one that did not: its last datagram, and who did not answer it.
+#[derive(Clone, Copy)]
+struct Conclusion<'t>(&'t CapturedTransfer);
+
+impl fmt::Display for Conclusion<'_> {
+    fn fmt<W: fmt::Write>(&self, f: &mut fmt::Formatter<W>) -> fmt::Result {
+        match &self.0.ending {
+            Ending::Complete => f.write_str("complete"),
+            Ending::Error { by, text } => write!(f, "{text} of the {by}"),
+            Ending::Open => self.0.write_open(f),
+        }
     }
 }
 
 impl CapturedTransfer {
-    /// Its number, and which end does what.
-    fn write_ends<W: fmt::Write>(&self, f: &mut fmt::Formatter<W>) -> fmt::Result {
-        let (number, client, asked_at) = (self.number, self.client, self.asked_at);
-        match self.sender() {
-            Party::Server => write!(f, "transfer {number}: {client} reads from {asked_at}"),
-            Party::Client => write!(f, "transfer {number}: {client} writes to {asked_at}"),
-        }
-    }
-
     /// Who answered, and what was agreed.
     fn write_answer<W: fmt::Write>(&self, f: &mut fmt::Formatter<W>) -> fmt::Result {
         let Some(server) = self.server else {
-            return writeln!(f, "  answered by nobody");
+            return f.write_str("  answered by nobody\n");
         };
-        writeln!(f, "  answered by {server}")?;
+        let agreed = match &self.agreed {
+            Some(agreed) => agreed.as_str(),
+            None if self.blocks == 0 => return writeln!(f, "  answered by {server}"),
+            None => "no options",
+        };
         let size = self.block_size();
-        match &self.agreed {
-            Some(agreed) => {
-                let agreed = agreed.as_str();
-                writeln!(f, "  agreed   {agreed}: blocks of {size}")
-            }
-            None if self.blocks == 0 => Ok(()),
-            None => writeln!(f, "  agreed   no options: blocks of {size}"),
-        }
+        writeln!(
+            f,
+            "  answered by {server}\n  agreed   {agreed}: blocks of {size}"
+        )
     }
 
-    /// How much was sent, and how long it took.
+    /// How much was sent, and the datagrams whose end was not seen.
     fn write_moved<W: fmt::Write>(&self, f: &mut fmt::Formatter<W>) -> fmt::Result {
-        let (blocks, bytes, time) = (self.block_count(), self.byte_count(), self.lasted());
-        writeln!(f, "  sent     {blocks}, {bytes} in {time} s")
-    }
-
-    /// The datagrams whose end was not seen.
-    fn write_cut<W: fmt::Write>(&self, f: &mut fmt::Formatter<W>) -> fmt::Result {
-        match self.cut() {
-            0 => Ok(()),
-            cut => writeln!(
-                f,
-                "  cut      the capture has the beginning of {cut} of them"
-            ),
+        let (moved, cut) = (Moved(self), self.cut);
+        writeln!(f, "  sent     {moved}")?;
+        if cut == 0 {
+            return Ok(());
         }
+        writeln!(
+            f,
+            "  cut      the capture has the beginning of {cut} of them"
+        )
     }
 
     /// The datagrams that were sent again.
     fn write_repeats<W: fmt::Write>(&self, f: &mut fmt::Formatter<W>) -> fmt::Result {
-        let repeats = self
-            .datagrams
-            .iter()
-            .filter(|datagram| datagram.gap.is_some());
-        for datagram in repeats.take(MAX_REPEATS) {
-            writeln!(f, "  again    {datagram}")?;
+        let mut left = MAX_REPEATS;
+        for datagram in &self.datagrams {
+            if datagram.gap.is_some() && left > 0 {
+                writeln!(f, "  again    {datagram}")?;
+                left -= 1;
+            }
         }
-        let more = self.again().saturating_sub(MAX_REPEATS);
-        if more > 0 {
-            writeln!(f, "  again    {more} more")?;
+        let more = self.again.saturating_sub(MAX_REPEATS);
+        if more == 0 {
+            return Ok(());
+        }
+        writeln!(f, "  again    {more} more")
+    }
+
+    /// The datagrams beside it.
+    fn write_asides<W: fmt::Write>(&self, f: &mut fmt::Formatter<W>) -> fmt::Result {
+        for aside in &self.asides {
+            writeln!(f, "  beside   {aside}")?;
         }
         Ok(())
     }
 
-    /// How it ended.
-    fn write_ending<W: fmt::Write>(&self, f: &mut fmt::Formatter<W>) -> fmt::Result {
-        match &self.ending {
-            Ending::Complete => write!(f, "complete"),
-            Ending::Error { by, text } => {
-                let text = text.as_str();
-                write!(f, "{text} of the {by}")
-            }
-            Ending::Open => self.write_open(f),
-        }
-    }
-
     /// The last datagram of a transfer that did not end, and who did not answer it.
     fn write_open<W: fmt::Write>(&self, f: &mut fmt::Formatter<W>) -> fmt::Result {
-        let Some(TransferDatagram { by, what, .. }) = self.datagrams.last() else {
-            return write!(f, "nothing was sent");
+        let Some(last) = self.datagrams.last() else {
+            return f.write_str("nothing was sent");
         };
-        let silent = by.other();
+        let (what, by, silent) = (last.what, last.by, last.by.other());
         write!(
             f,
             "nothing after {what} of the {by}: the {silent} was silent"

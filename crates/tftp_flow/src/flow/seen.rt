@@ -26,10 +26,11 @@ impl Spot {
 
 impl fmt::Display for Spot {
     fn fmt<W: fmt::Write>(&self, f: &mut fmt::Formatter<W>) -> fmt::Result {
-        match *self {
-            Spot::Line(number) => write!(f, "line {number}"),
-            Spot::Frame(number) => write!(f, "frame {number}"),
-        }
+        let (place, number) = match *self {
+            Spot::Line(number) => ("line", number),
+            Spot::Frame(number) => ("frame", number),
+        };
+        write!(f, "{place} {number}")
     }
 }
 

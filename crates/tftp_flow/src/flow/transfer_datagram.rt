@@ -23,14 +23,19 @@ impl Party {
             Party::Server => Party::Client,
         }
     }
+
+    /// Its name.
+    pub(crate) fn name(self) -> &'static str {
+        match self {
+            Party::Client => "client",
+            Party::Server => "server",
+        }
+    }
 }
 
 impl fmt::Display for Party {
     fn fmt<W: fmt::Write>(&self, f: &mut fmt::Formatter<W>) -> fmt::Result {
-        match self {
-            Party::Client => write!(f, "client"),
-            Party::Server => write!(f, "server"),
-        }
+        f.write_str(self.name())
     }
 }
 
@@ -109,22 +114,19 @@ fn error_code(bytes: &[u8]) -> u16 {
 
 impl fmt::Display for What {
     fn fmt<W: fmt::Write>(&self, f: &mut fmt::Formatter<W>) -> fmt::Result {
-        match self {
-            What::Read => write!(f, "RRQ"),
-            What::Write => write!(f, "WRQ"),
-            What::Data { block, length } => {
-                let (block, length) = (*block, *length);
-                let line = DataLine { block, length };
-                write!(f, "{line}")
-            }
-            What::Ack { block } => write!(f, "ACK {block}"),
-            What::Error { code } => write!(f, "ERROR {code}"),
-            What::Options => write!(f, "OACK"),
+        let (name, number) = match *self {
+            What::Read => return f.write_str("RRQ"),
+            What::Write => return f.write_str("WRQ"),
+            What::Data { block, length } => return DataLine { block, length }.fmt(f),
+            What::Ack { block } => ("ACK", block),
+            What::Error { code } => ("ERROR", code),
+            What::Options => return f.write_str("OACK"),
             What::Fault { kind } => {
                 let name = kind.name();
-                write!(f, "fault {name}")
+                return write!(f, "fault {name}");
             }
-        }
+        };
+        write!(f, "{name} {number}")
     }
 }
 
@@ -155,4 +157,15 @@ impl fmt::Display for TransferDatagram {
             None => Ok(()),
         }
     }
+}
+
+/// The index of the newest of these datagrams that this end sent and that is the same.
+pub(crate) fn index_of_same(
+    datagrams: &[TransferDatagram],
+    by: Party,
+    what: What,
+) -> Option<usize> {
+    datagrams
+        .iter()
+        .rposition(|it| it.by == by && it.what == what)
 }
