@@ -13,9 +13,10 @@ pub struct Count {
 impl fmt::Display for Count {
     fn fmt<W: fmt::Write>(&self, f: &mut fmt::Formatter<W>) -> fmt::Result {
         let (number, name) = (self.number, self.name);
-        match number {
-            1 => write!(f, "1 {name}"),
-            _ => write!(f, "{number} {name}s"),
-        }
+        let ending = match number {
+            1 => "",
+            _ => "s",
+        };
+        write!(f, "{number} {name}{ending}")
     }
 }

@@ -166,9 +166,10 @@ impl Flight {
 impl Diagram {
     /// The host of a lane; a stranger if there is no such lane.
     pub(crate) fn host_of(&self, lane: usize) -> Host {
-        self.lanes
-            .get(lane)
-            .map_or(Host::Stranger, |lane| lane.host)
+        match self.lanes.get(lane) {
+            Some(lane) => lane.host,
+            None => Host::Stranger,
+        }
     }
 }
 

@@ -38,6 +38,7 @@ pub(crate) struct Point {
 /// A whole picture.
 #[derive(Drop)]
 pub(crate) struct Layout {
+    alloc: Global,
     pub(crate) width: u32,
     pub(crate) height: u32,
     pub(crate) lines: Vec<Line>,
@@ -155,6 +156,7 @@ impl Layout {
     pub(crate) fn new(alloc: Global, diagram: &Diagram) -> Result<Layout, AllocError> {
         let columns = Columns::new(alloc, diagram)?;
         let mut layout = Layout {
+            alloc,
             width: columns.width(),
             height: 0,
             lines: Vec::new(alloc),
@@ -164,17 +166,42 @@ impl Layout {
             taken: Vec::new(alloc),
             aside: Vec::new(alloc),
         };
-        layout.add_lanes(alloc, diagram, &columns)?;
-        layout.add_times(alloc, diagram)?;
-        layout.add_arrows(diagram, &columns)?;
-        layout.add_signs(diagram, &columns)?;
-        layout.add_labels(diagram, &columns)?;
-        layout.add_notes(diagram, &columns)?;
-        layout.add_aside(alloc)?;
-        layout.add_comments(alloc, diagram)?;
-        layout.add_heading(alloc, diagram)?;
-        layout.add_legend(alloc, diagram)?;
-        Ok(layout)
+        match layout.add_all(diagram, &columns) {
+            Ok(()) => Ok(layout),
+            Err(fault) => Err(fault),
+        }
+    }
+
+    fn add_all(&mut self, diagram: &Diagram, columns: &Columns) -> Result<(), AllocError> {
+        self.add_lanes(diagram, columns)?;
+        self.add_times(diagram)?;
+        self.add_arrows(diagram, columns)?;
+        self.add_signs(diagram, columns)?;
+        self.add_labels(diagram, columns)?;
+        self.add_notes(diagram, columns)?;
+        self.add_aside()?;
+        self.add_comments(diagram)?;
+        self.add_heading(diagram)?;
+        self.add_legend(diagram)
+    }
+
+    /// Adds a text at a point.
+    fn add_words(
+        &mut self,
+        at: Point,
+        anchor: Anchor,
+        font: Font,
+        ink: Ink,
+        words: &str,
+    ) -> Result<(), AllocError> {
+        self.texts.push(Text {
+            at,
+            anchor,
+            font,
+            ink,
+            text: String::from_str(self.alloc, words)?,
+        })?;
+        Ok(())
     }
 }
 

@@ -15,9 +15,10 @@ const HEAD: &str = "<svg xmlns=\"http://www.w3.org/2000/svg\" ";
 /// The end of the root element.
 const FOOT: &str = "</svg>\n";
 
-/// The colours, the fonts and the heads of arrows. The picture has its own background, so that it
-/// is legible on light and dark pages.
-const STYLE: &str = "\
+/// The end of the title, then the colours, the fonts and the heads of arrows, and the background,
+/// which makes the picture legible on light and dark pages.
+static STYLE: &str = "\
+</title>
 <style>
 .page,.frame{fill:#fdfdfb}
 .page{stroke:#d0d7de}
@@ -61,6 +62,7 @@ markerHeight=\"8\" markerUnits=\"userSpaceOnUse\" orient=\"auto\">\
 markerHeight=\"8\" markerUnits=\"userSpaceOnUse\" orient=\"auto\">\
 <path d=\"M0 0L10 4L0 8Z\" fill=\"#8250df\"/></marker>
 </defs>
+<rect class=\"page\" width=\"100%\" height=\"100%\" rx=\"8\"/>
 ";
 
 /// The picture of a diagram, as the text of an SVG file.
@@ -79,32 +81,38 @@ pub fn svg_text(alloc: Global, diagram: &Diagram) -> Result<String, AllocError>
 fn content_of(alloc: Global, diagram: &Diagram) -> Result<String, AllocError> {
     let layout = Layout::new(alloc, diagram)?;
     let mut svg = String::new(alloc);
-    push_head(&mut svg, &layout, diagram.title.as_str())?;
+    match push_content(&mut svg, &layout, diagram.title.as_str()) {
+        Ok(()) => Ok(svg),
+        Err(fault) => Err(fault),
+    }
+}
+
+fn push_content(svg: &mut String, layout: &Layout, title: &str) -> Result<(), AllocError> {
+    push_head(svg, layout, title)?;
     for line in &layout.lines {
-        push_line(&mut svg, line)?;
+        push_line(svg, line)?;
     }
     for frame in &layout.frames {
-        push_frame(&mut svg, frame)?;
+        push_frame(svg, frame)?;
     }
     for sign in &layout.signs {
-        push_sign(&mut svg, sign)?;
+        push_sign(svg, sign)?;
     }
     for text in &layout.texts {
-        push_text(&mut svg, text)?;
+        push_text(svg, text)?;
     }
-    Ok(svg)
+    Ok(())
 }
 
 /// The other attributes of the root element, its title, the style and the background.
 fn push_head(svg: &mut String, layout: &Layout, title: &str) -> Result<(), AllocError> {
     let (width, height) = (layout.width, layout.height);
-    write!(svg, "width=\"{width}\" height=\"{height}\" ")?;
-    writeln!(svg, "viewBox=\"0 0 {width} {height}\" role=\"img\">")?;
-    svg.push_str("<title>")?;
+    write!(
+        svg,
+        "width=\"{width}\" height=\"{height}\" viewBox=\"0 0 {width} {height}\" role=\"img\">\n<title>"
+    )?;
     push_escaped(svg, title)?;
-    svg.push_str("</title>\n")?;
-    svg.push_str(STYLE)?;
-    svg.push_str("<rect class=\"page\" width=\"100%\" height=\"100%\" rx=\"8\"/>\n")
+    svg.push_str(STYLE)
 }
 
 fn push_line(svg: &mut String, line: &Line) -> Result<(), AllocError> {
@@ -119,11 +127,16 @@ fn push_line(svg: &mut String, line: &Line) -> Result<(), AllocError> {
 }
 
 fn push_frame(svg: &mut String, frame: &Frame) -> Result<(), AllocError> {
-    let edge = frame.edge.map_or("plain", |ink| ink.class());
+    let edge = match frame.edge {
+        Some(ink) => ink.class(),
+        None => "plain",
+    };
     let Point { x, y } = frame.corner;
     let (width, height) = (frame.width, frame.height);
-    write!(svg, "<rect class=\"frame {edge}\" x=\"{x}\" y=\"{y}\" ")?;
-    writeln!(svg, "width=\"{width}\" height=\"{height}\" rx=\"6\"/>")
+    writeln!(
+        svg,
+        "<rect class=\"frame {edge}\" x=\"{x}\" y=\"{y}\" width=\"{width}\" height=\"{height}\" rx=\"6\"/>"
+    )
 }
 
 /// A sign, whose middle is its point.

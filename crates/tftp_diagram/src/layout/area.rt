@@ -40,13 +40,13 @@ impl Area {
         if from.y.max(to.y) <= self.top || from.y.min(to.y) >= self.bottom {
             return false;
         }
-        let corners = [
-            side_of(line, self.left, self.top),
-            side_of(line, self.right, self.top),
-            side_of(line, self.left, self.bottom),
-            side_of(line, self.right, self.bottom),
-        ];
-        !corners.iter().all(|side| *side > 0) && !corners.iter().all(|side| *side < 0)
+        let upper_left = side_of(line, self.left, self.top);
+        let upper_right = side_of(line, self.right, self.top);
+        let lower_left = side_of(line, self.left, self.bottom);
+        let lower_right = side_of(line, self.right, self.bottom);
+        let least = upper_left.min(upper_right).min(lower_left).min(lower_right);
+        let most = upper_left.max(upper_right).max(lower_left).max(lower_right);
+        least <= 0 && most >= 0
     }
 }
 

@@ -63,8 +63,7 @@ impl Layout {
                 y: sending_of(flight.sent).saturating_sub(ABOVE),
             };
             let ink = Ink::of_host(diagram.host_of(flight.from));
-            let label = flight.label.clone()?;
-            self.add_beside(columns, at, side, ink, label)?;
+            self.add_beside(columns, at, side, ink, flight.label.as_str())?;
         }
         Ok(())
     }

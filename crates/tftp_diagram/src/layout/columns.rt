@@ -88,7 +88,8 @@ impl Columns {
 
     /// Gives the lanes their space.
     fn space(&mut self, alloc: Global, diagram: &Diagram) -> Result<(), AllocError> {
-        let needs = self.needs(alloc, diagram)?;
+        let mut needs = Vec::new(alloc);
+        self.add_needs(diagram, &mut needs)?;
         for stop in 0..self.last_stop().saturating_add(1) {
             let x = self.stop_x(stop, needs.as_slice());
             self.stops.push(x)?;
@@ -111,8 +112,10 @@ impl Columns {
     }
 
     fn stop_of(&self, lane: usize) -> usize {
-        let place = self.order.iter().position(|index| *index == lane);
-        place.map_or(0, |place| place.saturating_add(1))
+        match self.order.iter().position(|index| *index == lane) {
+            Some(place) => place.saturating_add(1),
+            None => 0,
+        }
     }
 
     fn x_at(&self, stop: usize) -> u32 {
@@ -130,17 +133,16 @@ impl Columns {
         x
     }
 
-    /// The distances that the stops need.
-    fn needs(&self, alloc: Global, diagram: &Diagram) -> Result<Vec<Need>, AllocError> {
-        let mut needs = Vec::new(alloc);
-        self.add_frames(diagram, &mut needs)?;
+    /// Adds the distances that the stops need.
+    fn add_needs(&self, diagram: &Diagram, needs: &mut Vec<Need>) -> Result<(), AllocError> {
+        self.add_frames(diagram, needs)?;
         for flight in &diagram.flights {
             needs.push(self.need_of_flight(flight))?;
         }
         for mark in &diagram.marks {
             needs.push(self.need_of_mark(mark, diagram.host_of(mark.lane)))?;
         }
-        Ok(needs)
+        Ok(())
     }
 
     /// The width of the picture, and the distance of neighbours, whose frames are side by side.
@@ -154,14 +156,16 @@ impl Columns {
         })?;
         let mut half_before = 0;
         for (place, index) in self.order.iter().enumerate() {
-            let half = diagram.lanes.get(*index).map_or(0, half_of_frame);
+            let half = match diagram.lanes.get(*index) {
+                Some(lane) => half_of_frame(lane),
+                None => 0,
+            };
             let width = half.saturating_add(half_before);
             needs.push(neighbours(place, last, width))?;
             half_before = half;
         }
-        needs
-            .push(neighbours(self.order.len(), last, half_before))
-            .map_err(AllocError::from)
+        needs.push(neighbours(self.order.len(), last, half_before))?;
+        Ok(())
     }
 
     /// The label of a datagram is between its sender's lane and the next.

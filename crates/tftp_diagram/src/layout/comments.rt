@@ -16,17 +16,14 @@ const GAP: u32 = 24;
 
 impl Layout {
     /// Adds the comments at the right of what is drawn so far, and makes room for them there.
-    pub(crate) fn add_comments(
-        &mut self,
-        alloc: Global,
-        diagram: &Diagram,
-    ) -> Result<(), AllocError> {
+    pub(crate) fn add_comments(&mut self, diagram: &Diagram) -> Result<(), AllocError> {
         let left = self.width;
         let mut widest = 0;
         for comment in &diagram.comments {
             let mut y = sending_of(comment.row);
-            for line in wrapped(alloc, comment.text.as_str())? {
-                let width = width_of(line.as_str());
+            for line in &wrapped(self.alloc, comment.text.as_str())? {
+                let line = line.as_str();
+                let width = width_of(line);
                 widest = widest.max(width.saturating_add(GAP));
                 self.add_text(Point { x: left, y }, Anchor::Start, width, Ink::Quiet, line)?;
                 y = y.saturating_add(LINE_HEIGHT);

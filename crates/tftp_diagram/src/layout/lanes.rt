@@ -4,10 +4,9 @@ use crate::diagram::{Diagram, Lane};
 use crate::ink::Ink;
 use crate::layout::columns::Columns;
 use crate::layout::{
-    Anchor, Font, Frame, Layout, Line, Point, Stroke, Text, closing_of, foot_of, sending_of,
-    width_of,
+    Anchor, Font, Frame, Layout, Line, Point, Stroke, closing_of, foot_of, sending_of, width_of,
 };
-use std::alloc::{AllocError, Global};
+use std::alloc::AllocError;
 
 /// The upper edge of the frames, and their height.
 const BOX_TOP: u32 = 72;
@@ -18,15 +17,14 @@ impl Layout {
     /// Adds all lanes.
     pub(crate) fn add_lanes(
         &mut self,
-        alloc: Global,
         diagram: &Diagram,
         columns: &Columns,
     ) -> Result<(), AllocError> {
         for (index, lane) in diagram.lanes.iter().enumerate() {
             let x = columns.x_of(index);
             self.add_lane_line(diagram, x, lane)?;
-            self.add_open_line(alloc, diagram, x, index)?;
-            self.add_frame(alloc, x, lane)?;
+            self.add_open_line(diagram, x, index)?;
+            self.add_frame(x, lane)?;
             self.add_foot(diagram, x, lane)?;
         }
         Ok(())
@@ -45,13 +43,7 @@ impl Layout {
     }
 
     /// From where the end sends its first datagram to where it closes, or to the foot.
-    fn add_open_line(
-        &mut self,
-        alloc: Global,
-        diagram: &Diagram,
-        x: u32,
-        index: usize,
-    ) -> Result<(), AllocError> {
+    fn add_open_line(&mut self, diagram: &Diagram, x: u32, index: usize) -> Result<(), AllocError> {
         let Some(first) = first_sent(diagram, index) else {
             return Ok(());
         };
@@ -59,8 +51,8 @@ impl Layout {
             Some(close) => close,
             None => {
                 let foot = foot_of(diagram);
-                let text = String::from_str(alloc, "still open")?;
-                self.add_middle(x, foot.saturating_add(44), Font::Plain, Ink::Timeout, text)?;
+                let y = foot.saturating_add(44);
+                self.add_middle(x, y, Font::Plain, Ink::Timeout, "still open")?;
                 foot.saturating_add(12)
             }
         };
@@ -74,7 +66,7 @@ impl Layout {
     }
 
     /// The frame at the head of a lane, with its endpoint and what is there.
-    fn add_frame(&mut self, alloc: Global, x: u32, lane: &Lane) -> Result<(), AllocError> {
+    fn add_frame(&mut self, x: u32, lane: &Lane) -> Result<(), AllocError> {
         let width = width_of(lane.name.as_str()).saturating_add(20);
         let ink = Ink::of_host(lane.host);
         self.frames.push(Frame {
@@ -86,16 +78,15 @@ impl Layout {
             height: BOX_HEIGHT,
             edge: Some(ink),
         })?;
-        self.add_middle(x, BOX_TOP + 17, Font::Code, ink, lane.name.clone()?)?;
-        let role = String::from_str(alloc, lane.role)?;
-        self.add_middle(x, BOX_TOP + 33, Font::Plain, ink, role)
+        self.add_middle(x, BOX_TOP + 17, Font::Code, ink, lane.name.as_str())?;
+        self.add_middle(x, BOX_TOP + 33, Font::Plain, ink, lane.role)
     }
 
     /// The endpoint at the foot of a lane.
     fn add_foot(&mut self, diagram: &Diagram, x: u32, lane: &Lane) -> Result<(), AllocError> {
         let y = foot_of(diagram).saturating_add(28);
-        let name = lane.name.clone()?;
-        self.add_middle(x, y, Font::Code, Ink::of_host(lane.host), name)
+        let ink = Ink::of_host(lane.host);
+        self.add_middle(x, y, Font::Code, ink, lane.name.as_str())
     }
 
     fn add_middle(
@@ -104,16 +95,9 @@ impl Layout {
         y: u32,
         font: Font,
         ink: Ink,
-        text: String,
+        text: &str,
     ) -> Result<(), AllocError> {
-        self.texts.push(Text {
-            at: Point { x, y },
-            anchor: Anchor::Middle,
-            font,
-            ink,
-            text,
-        })?;
-        Ok(())
+        self.add_words(Point { x, y }, Anchor::Middle, font, ink, text)
     }
 }
 

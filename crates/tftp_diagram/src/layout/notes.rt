@@ -34,14 +34,9 @@ impl Layout {
     ) -> Result<(), AllocError> {
         for mark in &diagram.marks {
             let side = columns.side_of(mark, diagram.host_of(mark.lane));
-            let text = mark.text.clone()?;
-            self.add_beside(
-                columns,
-                point_of(mark, columns),
-                side,
-                Ink::of_mark(mark.kind),
-                text,
-            )?;
+            let ink = Ink::of_mark(mark.kind);
+            let at = point_of(mark, columns);
+            self.add_beside(columns, at, side, ink, mark.text.as_str())?;
         }
         for flight in &diagram.flights {
             match flight.course {
@@ -61,7 +56,7 @@ impl Layout {
                 y: arrival_of(*row).saturating_sub(ABOVE),
             };
             let side = columns.away_from(flight.to, flight.from);
-            self.add_beside(columns, at, side, Ink::Quiet, flight.again.clone()?)?;
+            self.add_beside(columns, at, side, Ink::Quiet, flight.again.as_str())?;
         }
         Ok(())
     }
@@ -73,7 +68,7 @@ impl Layout {
             y: sending_of(flight.sent),
         };
         let side = columns.away_from(flight.from, flight.to);
-        self.add_beside(columns, at, side, Ink::Quiet, flight.again.clone()?)
+        self.add_beside(columns, at, side, Ink::Quiet, flight.again.as_str())
     }
 }
 

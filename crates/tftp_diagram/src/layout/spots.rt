@@ -3,10 +3,8 @@
 use crate::ink::Ink;
 use crate::layout::area::Area;
 use crate::layout::columns::Columns;
-use crate::layout::{
-    Anchor, Aside, Font, Frame, LaneSide, Layout, Line, Point, Stroke, Text, width_of,
-};
-use std::alloc::{AllocError, Global};
+use crate::layout::{Anchor, Aside, Font, Frame, LaneSide, Layout, Line, Point, Stroke, width_of};
+use std::alloc::AllocError;
 use std::mem;
 
 /// From a lane to the text beside it.
@@ -91,9 +89,9 @@ impl Layout {
         at: Point,
         side: LaneSide,
         ink: Ink,
-        text: String,
+        text: &str,
     ) -> Result<(), AllocError> {
-        let width = width_of(text.as_str());
+        let width = width_of(text);
         let wanted = Spot {
             lane: at.x,
             middle: at.y,
@@ -108,7 +106,7 @@ impl Layout {
             from: at,
             middle: at.y,
             ink,
-            text,
+            text: String::from_str(self.alloc, text)?,
         })?;
         Ok(())
     }
@@ -123,13 +121,7 @@ impl Layout {
     }
 
     /// Adds a text in its place, and hides the lane behind it.
-    fn add_spot(
-        &mut self,
-        spot: Spot,
-        width: u32,
-        ink: Ink,
-        text: String,
-    ) -> Result<(), AllocError> {
+    fn add_spot(&mut self, spot: Spot, width: u32, ink: Ink, text: &str) -> Result<(), AllocError> {
         let area = spot.area(width);
         let (x, anchor) = match spot.side {
             LaneSide::Left => (area.right, Anchor::End),
@@ -140,14 +132,15 @@ impl Layout {
     }
 
     /// Adds the texts at the right, from the lowest upwards, and the lines to them.
-    pub(crate) fn add_aside(&mut self, alloc: Global) -> Result<(), AllocError> {
+    pub(crate) fn add_aside(&mut self) -> Result<(), AllocError> {
         let x = self.width;
         let mut widest = 0;
         let mut most = u32::MAX;
-        let mut texts = mem::replace(&mut self.aside, Vec::new(alloc));
+        let mut texts = mem::replace(&mut self.aside, Vec::new(self.alloc));
         texts.sort_unstable_by_key(|aside| u32::MAX - aside.middle);
-        for aside in texts {
-            let width = width_of(aside.text.as_str());
+        for aside in &texts {
+            let text = aside.text.as_str();
+            let width = width_of(text);
             let middle = aside.middle.min(most);
             most = middle.saturating_sub(ASIDE_STEP);
             widest = widest.max(width.saturating_add(ASIDE_GAP));
@@ -161,7 +154,7 @@ impl Layout {
                 stroke: Stroke::Leader,
             })?;
             let at = Point { x, y: middle };
-            self.add_text(at, Anchor::Start, width, aside.ink, aside.text)?;
+            self.add_text(at, Anchor::Start, width, aside.ink, text)?;
         }
         self.width = x.saturating_add(widest);
         Ok(())
@@ -174,7 +167,7 @@ impl Layout {
         anchor: Anchor,
         width: u32,
         ink: Ink,
-        text: String,
+        text: &str,
     ) -> Result<(), AllocError> {
         let left = match anchor {
             Anchor::End => at.x.saturating_sub(width),
@@ -189,16 +182,10 @@ impl Layout {
             height: 14,
             edge: None,
         })?;
-        self.texts.push(Text {
-            at: Point {
-                x: at.x,
-                y: at.y.saturating_add(4),
-            },
-            anchor,
-            font: Font::Code,
-            ink,
-            text,
-        })?;
-        Ok(())
+        let at = Point {
+            x: at.x,
+            y: at.y.saturating_add(4),
+        };
+        self.add_words(at, anchor, Font::Code, ink, text)
     }
 }
