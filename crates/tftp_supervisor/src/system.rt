@@ -78,9 +78,7 @@ impl<'a> SystemProcesses<'a> {
     /// Starts a process, with this socket.
     fn spawn(&self, line: &[String], socket: &OwnedFd) -> io::Result<Child> {
         let mut command = Command::new(self.rt.alloc(), self.program.as_path())?;
-        for word in line.iter().skip(1) {
-            command.arg(word.as_str())?;
-        }
+        command.args(line.get(1..).unwrap_or_default())?;
         command.stdin(Stdio::from(socket.try_clone()?));
         command.stdout(Stdio::piped());
         command.spawn(&self.rt)
