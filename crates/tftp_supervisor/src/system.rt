@@ -16,15 +16,15 @@ use crate::processes::ServerProcesses;
 use crate::supervise::{Place, Supervise};
 use crate::supervisor;
 use crate::supervisor_fault::SupervisorFault;
-use absent::{Absent, Tried};
+use absent::Tried;
 use event_ref::EventRef;
 use reports::Reports;
+use std::env;
 use std::io::{self, ErrorKind, Read};
 use std::net::{SocketAddr, UdpSocket};
 use std::os::fd::OwnedFd;
 use std::path::PathBuf;
 use std::process::{Child, Command, ExitStatus, Stdio};
-use std::{env, mem};
 use trace::{ProcessEvents, Trace};
 
 /// Servers of this program, each with the socket of its place as its standard input.
@@ -33,44 +33,41 @@ struct SystemProcesses<'a> {
     rt: HostRuntime,
     program: PathBuf,
     places: &'a [Place],
-    /// The process of each server, once its address is there.
+    /// The command line of each server.
+    lines: &'a [Vec<String>],
+    /// The process of each server that was started, once its address is there.
     children: Vec<Option<Child>>,
-    /// The servers whose addresses are absent.
-    absent: Vec<Absent>,
+    /// How many of these servers have no process, since their addresses are absent.
+    absent: usize,
     reports: Reports,
     trace: Trace,
 }
 
 impl<'a> SystemProcesses<'a> {
     /// No server.
-    fn new(rt: HostRuntime, places: &'a [Place]) -> Result<SystemProcesses<'a>, SupervisorFault>
+    fn new(
+        rt: HostRuntime,
+        places: &'a [Place],
+        lines: &'a [Vec<String>],
+    ) -> Result<SystemProcesses<'a>, SupervisorFault>
         ensures { IfOk result (λ processes. processes.trace.events ≡ []) }
     {
         let program = match env::current_exe(&rt) {
             Ok(program) => program,
             Err(error) => return Err(SupervisorFault::of_program(error)),
         };
-        match SystemProcesses::of_program(rt, program, places) {
-            Ok(processes) => Ok(processes),
-            Err(error) => Err(SupervisorFault::of(error)),
-        }
-    }
-
-    /// No server of this program.
-    fn of_program(
-        rt: HostRuntime,
-        program: PathBuf,
-        places: &'a [Place],
-    ) -> io::Result<SystemProcesses<'a>>
-        ensures { IfOk result (λ processes. processes.trace.events ≡ []) }
-    {
+        let reports = match Reports::new(&rt) {
+            Ok(reports) => reports,
+            Err(error) => return Err(SupervisorFault::of(error)),
+        };
         Ok(SystemProcesses {
             rt,
             program,
             places,
+            lines,
             children: Vec::new(rt.alloc()),
-            absent: Vec::new(rt.alloc()),
-            reports: Reports::new(&rt)?,
+            absent: 0,
+            reports,
             trace: Trace::new(&ProcessEvents),
         })
     }
@@ -88,12 +85,10 @@ impl<'a> SystemProcesses<'a> {
     fn begin(&mut self, line: &[String]) -> io::Result<Option<Child>>
         ensures { self.new.trace ≡ self.old.trace }
     {
-        let index = self.children.len();
-        match self.places.get(index) {
+        match self.places.get(self.children.len()) {
             Some(Place::Bound(socket)) => Ok(Some(self.spawn(line, socket)?)),
-            Some(Place::Absent(at)) => {
-                let absent = Absent::new(self.rt.alloc(), index, *at, line)?;
-                self.absent.push(absent)?;
+            Some(Place::Absent(_)) => {
+                self.absent = self.absent.saturating_add(1);
                 Ok(None)
             }
             None => Err(io::Error::from(ErrorKind::NotFound)),
@@ -105,34 +100,37 @@ impl<'a> SystemProcesses<'a> {
     fn begin_absent(&mut self) -> io::Result<()>
         ensures { self.new.trace ≡ self.old.trace }
     {
-        if self.absent.is_empty() {
+        if self.absent == 0 {
             return Ok(());
         }
         if !self.children.iter().any(|child| is_open(child)) {
             return Err(io::Error::from(ErrorKind::AddrNotAvailable));
         }
-        let absent = mem::replace(&mut self.absent, Vec::new(self.rt.alloc()));
         let mut tried = Tried::new();
-        for server in absent {
-            self.begin_late(&mut tried, server)?;
+        for index in 0..self.children.len() {
+            if let Some(Place::Absent(at)) = self.places.get(index) {
+                self.begin_late(&mut tried, index, *at)?;
+            }
         }
         Ok(())
     }
 
-    /// Starts the process of a server whose address was absent, if it is there.
-    fn begin_late(&mut self, tried: &mut Tried, server: Absent) -> io::Result<()>
+    /// Starts the process of this server whose address was absent, if that is there, and if it has none.
+    fn begin_late(&mut self, tried: &mut Tried, index: usize, at: SocketAddr) -> io::Result<()>
         ensures { self.new.trace ≡ self.old.trace }
     {
-        let Some(socket) = tried.socket_at(&self.rt, server.at) else {
-            self.absent.push(server)?;
+        let (Some(None), Some(line)) = (self.children.get(index), self.lines.get(index)) else {
             return Ok(());
         };
-        let child = self.spawn(server.line.as_slice(), socket)?;
-        self.reports.add(&child, server.index)?;
-        if let Some(place) = self.children.get_mut(server.index) {
-            *place = Some(child);
-        }
-        Ok(())
+        let Some(socket) = tried.socket_at(&self.rt, at) else {
+            return Ok(());
+        };
+        let child = self.spawn(line.as_slice(), socket)?;
+        let Some(place) = self.children.get_mut(index) else {
+            return Ok(());
+        };
+        self.absent = self.absent.saturating_sub(1);
+        self.reports.add(place.insert(child), index)
     }
 }
 
@@ -149,7 +147,7 @@ impl ServerProcesses for SystemProcesses<'_> {
 
     fn wait(&mut self, reported: &mut Vec<u8>) -> io::Result<()> {
         self.begin_absent()?;
-        let limit = absent::limit(self.absent.as_slice());
+        let limit = absent::limit(self.absent);
         self.reports.wait(self.children.as_slice(), reported, limit)
     }
 
@@ -225,7 +223,7 @@ impl Supervise for HostRuntime {
         places: &[Place],
         servers: &[Vec<String>],
     ) -> (Result<(), SupervisorFault>, History) {
-        match SystemProcesses::new(*self, places) {
+        match SystemProcesses::new(*self, places, servers) {
             Ok(mut processes) => {
                 let ended = supervisor::supervise(&mut processes, self.alloc(), servers);
                 let SystemProcesses { trace, .. } = processes;

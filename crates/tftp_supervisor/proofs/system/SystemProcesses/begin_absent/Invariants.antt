@@ -2,5 +2,5 @@
 use Rattle.std.proofs.Common.{◌≡◌}
 use Rattle.tftp_supervisor.proofs.system.SystemProcesses.begin_absent.Given as goal
 
-abbrev pub invariant-loop-server : goal.invariant-loop-server
-invariant-loop-server l = l.self.trace ≡ l.fn.self.trace
+abbrev pub invariant-loop-index : goal.invariant-loop-index
+invariant-loop-index l = l.self.trace ≡ l.fn.self.trace
