@@ -1,16 +1,13 @@
-//! How an end carries out a response, and a receiver an action: the next phase, and the datagram to
-//! send.
+//! How an end carries out a response: the next phase, and the datagram to send.
 
-ghost use Rattle.std.specs.Prelude.{◌≡◌, ◌≤◌, drop, false, length, OnErr, IfOk, Some};
-ghost use Rattle.tftp_ends.specs.Files.{KeepsSink};
-ghost use Rattle.tftp_ends.specs.OneFile.{ReceiverActs, ReceiverActLacksMemory};
-ghost use Rattle.tftp_ends.specs.Step.{Turn, AcksAgain, Lends, UsesFile, ack_bytes};
+ghost use Rattle.std.specs.Prelude.{◌≡◌, ◌≤◌, drop, false, length, Some};
+ghost use Rattle.tftp_ends.specs.Step.{Lends, ack_bytes};
 ghost use Rattle.tftp_ends.specs.Step.{having_sent, in_phase, response_turn, with_position};
 ghost use Rattle.tftp_ends.specs.Step.{lent, reported};
 ghost use Rattle.tftp_ends.specs.Phase.{refused};
 ghost use Rattle.tftp_ends.specs.Room.{room_of, response_room};
 ghost use Rattle.tftp_ends.specs.End.{is_sender, number_of, step_of, terms_of};
-ghost use Rattle.tftp_ends.specs.Fits.{ActionFits, BytesFit, ReplyFits, ResponseFits, SentFits};
+ghost use Rattle.tftp_ends.specs.Fits.{ReplyFits, ResponseFits, SentFits};
 ghost use Rattle.tftp_ends.specs.Sound.{PhaseFits, ResendsAck};
 
 use crate::action::{Action, Response};
@@ -23,8 +20,6 @@ use crate::outgoing::Outgoing;
 use crate::phase::{Phase, Terms};
 use crate::record::Step;
 use crate::reply::MAX_ERROR;
-use std::alloc::AllocError;
-use tftp_file::Sink;
 use tftp_wire::append_ack;
 
 /// The data of a DATA packet, after its opcode and number.

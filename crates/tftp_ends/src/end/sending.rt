@@ -1,5 +1,5 @@
-//! How a sender carries out an action: it builds DATA in the spare buffer, and swaps that with the
-//! buffer of the last datagram sent.
+//! How a sender sends a block: it builds DATA in the spare buffer, and swaps that with the buffer of
+//! the last datagram sent.
 
 ghost use Rattle.std.specs.Prelude.{◌≡◌, ◌≤◌, ◌<◌, ◌+◌, ◌⊎◌, [], length, OnOk, OnErr};
 ghost use Rattle.std.specs.Prelude.{IfOk, IfErr, Some, vec_len, vec_capacity};
