@@ -3,8 +3,8 @@
 ghost use Rattle.std.specs.Prelude.{◌≡◌, ◌∷◌, Err, List, IfErr, OnOk, OnErr};
 ghost use Rattle.std.specs.String.{string_bytes};
 ghost use Rattle.tftp_disk.specs.declared.existing.Existing.TheVariants.{Refused, Replaced};
-ghost use Rattle.tftp_disk.specs.DiskTrace.{DiskEvent, Done, made_when, state_of};
-ghost use Rattle.tftp_disk.specs.DiskTrace.DiskEvent.{Folder_synced, Linked, Removed, Renamed};
+ghost use Rattle.tftp_disk.specs.DiskTrace.{DiskEvent, made_when, state_of};
+ghost use Rattle.tftp_disk.specs.DiskTrace.DiskEvent.{Folder_synced, Linked, Renamed};
 ghost use Rattle.tftp_disk.specs.DiskWriter.{calls_of, handed};
 ghost use Rattle.tftp_disk.specs.NamedFolder.{SyncsFolder, path_in};
 ghost use Rattle.tftp_disk.specs.Still.{IsStillAt};
@@ -130,7 +130,7 @@ fn keep_one<D: Disk>(
             Ok(())
         }
         Err(error) => {
-            remove_name(disk, names);
+            let _ = disk.remove(names.local.as_str());
             Err(LocalError::System(error))
         }
     }
@@ -143,14 +143,6 @@ fn sync_folder<D: Disk>(disk: &mut D, folder: &NamedFolder<D::File>) -> io::Resu
         ≡ Folder_synced (path_in folder.now.folder) (Err error) ∷ D.log disk.old) }
 {
     folder.sync(disk)
-}
-
-/// Removes the name again.
-fn remove_name<D: Disk>(disk: &mut D, names: &LocalNames)
-    ensures { (removal : Done) × (D.log disk.new
-        ≡ Removed (string_bytes names.now.local) removal ∷ D.log disk.old) }
-{
-    let _ = disk.remove(names.local.as_str());
 }
 
 /// Renames the file once no file was found at its name.

@@ -1,9 +1,8 @@
 //! Runs `tftp` by a command line.
 
-ghost use Rattle.std.specs.Prelude.{◌≡◌, ◌≤◌, ◌⊎◌, IfOk, IfErr, map};
+ghost use Rattle.std.specs.Prelude.{◌≡◌, ◌≤◌, map};
 ghost use Rattle.tftp_lines.specs.ClientOutcome.{status_of};
 ghost use Rattle.tftp_sockets.specs.Quiet.{waits as waits_in};
-ghost use Rattle.tftp_client.specs.CommandLine.{IfExit, IfRun};
 ghost use Rattle.tftp_client.specs.Converses.{most_waits};
 ghost use Rattle.tftp_client.specs.OnDisk.{StoresWords};
 ghost use Rattle.tftp_client.specs.Sent.{DoesOrder, SendsWords};
@@ -98,57 +97,10 @@ pub fn tftp_on<P: Print + Eprint, N: ClientUdp, D: Disk, S: AsStr, E: IsTerminal
     let Ok(texts) = BlockTexts::new(alloc) else {
         return (print_no_memory(rt, "tftp"), disk);
     };
-    let output = ErrorOutput::of(errors);
-    run_words(rt, net, disk, alloc, &texts, words, output)
-}
-
-/// Parses the words, and does what they have the program do.
-fn run_words<'a, P: Print + Eprint, N: ClientUdp, D: Disk, S: AsStr>(
-    rt: &P,
-    net: &mut N,
-    disk: D,
-    alloc: Global,
-    texts: &'a BlockTexts,
-    words: &'a [S],
-    errors: ErrorOutput,
-) -> (u8, D)
-    ensures status { result.0 ≤ 2 }
-    ensures runs { StoresWords
-        ⟦<SourceOf<D> as Source>⟧.meaning ⟦<LocalFile<D> as Sink>⟧.meaning
-        (map S.text words.now) result.0 (N.log net.old) (N.log net.new)
-        (D.log disk) (D.log result.1) }
-    ensures sends { SendsWords
-        ⟦<SourceOf<D> as Source>⟧.meaning ⟦<LocalFile<D> as Sink>⟧.meaning
-        (map S.text words.now) result.0 (N.log net.old) (N.log net.new) }
-    ensures waits { waits_in (N.log net.new) ≤ most_waits (N.log net.old) }
-{
-    match read_words(rt, alloc, texts, words, errors) {
-        Ok(line) => run_command_line(rt, net, alloc, &line, disk),
+    match read_words(rt, alloc, &texts, words, ErrorOutput::of(errors)) {
+        Ok(CommandLine::Run(job)) => run_job(rt, net, alloc, &job, disk),
+        Ok(CommandLine::Exit(status)) => (status, disk),
         Err(_) => (print_no_memory(rt, "tftp"), disk),
-    }
-}
-
-/// Does what the command line has the program do, and returns the status.
-fn run_command_line<E: Eprint, N: ClientUdp, D: Disk>(
-    rt: &E,
-    net: &mut N,
-    alloc: Global,
-    line: &CommandLine<'_>,
-    disk: D,
-) -> (u8, D)
-    requires { IfExit line.now (λ status. (status ≡ 0) ⊎ (status ≡ 2)) }
-    ensures status { result.0 ≤ 2 }
-    ensures runs { IfRun line.now (λ job. DoesOrder
-        ⟦<SourceOf<D> as Source>⟧.meaning ⟦<LocalFile<D> as Sink>⟧.meaning
-        job result.0 (N.log net.old) (N.log net.new) (D.log disk) (D.log result.1)) }
-    ensures none { IfExit line.now (λ _. N.log net.new ≡ N.log net.old) }
-    ensures unchanged { IfExit line.now (λ _. D.log result.1 ≡ D.log disk) }
-    ensures same { IfExit line.now (λ status. result.0 ≡ status) }
-    ensures waits { waits_in (N.log net.new) ≤ most_waits (N.log net.old) }
-{
-    match line {
-        CommandLine::Run(job) => run_job(rt, net, alloc, job, disk),
-        CommandLine::Exit(status) => (*status, disk),
     }
 }
 

@@ -12,8 +12,7 @@ ghost use Rattle.tftp_sockets.specs.Trace.QuietEvent.{Slept};
 ghost use Rattle.tftp_sockets.specs.Trace.{replied};
 ghost use Rattle.tftp_sockets.specs.Quiet.{waits as waits_in};
 ghost use Rattle.tftp_sockets.specs.Receipt.{Fits, receive_event};
-ghost use Rattle.tftp_sockets.specs.Watch.{later_by};
-ghost use Rattle.tftp_client.specs.Converses.{Converses, MayElapse, WorksOnFile, renewed};
+ghost use Rattle.tftp_client.specs.Converses.{Converses, MayElapse, WorksOnFile};
 ghost use Rattle.tftp_client.specs.Converses.{AnswersReceived, HandlesAs};
 ghost use Rattle.tftp_client.specs.Converses.{EndsBy, IsOpen, deadline_at, deadline_after};
 ghost use Rattle.tftp_client.specs.Converses.{seconds_of};
@@ -265,27 +264,10 @@ impl Conversation {
             ≡ deadline_at self.new.backoff self.new.watch.now self.new.end }
     {
         let step = self.take_datagram(net, files, from, count);
-        self.renew(net, &step);
-        step
-    }
-
-    /// Reads the clock. After a step with progress the deadline counts from then.
-    fn renew<N: ClientUdp>(&mut self, net: &mut N, step: &Step)
-        ensures renewed { state_of self.new (N.log net.new)
-            ≡ renewed step.now.progress self.new.watch
-            (state_of self.old (N.log net.old)) }
-        ensures reading { self.new.watch.now ≡ later_by self.old.watch self.new.watch.reading }
-        ensures forward { self.old.watch.now ≤ self.new.watch.now }
-        ensures port { self.new.socket.port ≡ self.old.socket.port }
-        ensures end { self.new.end ≡ self.old.end }
-        ensures backoff { self.new.backoff ≡ self.old.backoff }
-        ensures advanced { step.now.progress ≡ true
-            → self.new.deadline
-            ≡ deadline_at self.new.backoff self.new.watch.now self.new.end }
-    {
         let now = net.read_watch(&mut self.watch);
         let seconds = seconds(self.backoff, &self.end);
-        self.deadline = deadline_after(step, now, seconds, self.deadline);
+        self.deadline = deadline_after(&step, now, seconds, self.deadline);
+        step
     }
 
     /// Handles the datagram in the buffer, and sends the answer. Out of memory, it loses the
@@ -329,7 +311,7 @@ impl Conversation {
         }
     }
 
-    /// Delivers a timeout, if it is due.
+    /// Delivers a timeout, if it is due, and sends the answer.
     fn take_timeout<N: ClientUdp>(&mut self, net: &mut N)
         ensures elapses { MayElapse self.old.socket.port
             (state_of self.old (N.log net.old)) (state_of self.new (N.log net.new)) }
@@ -340,18 +322,6 @@ impl Conversation {
         if !is_due(self.watch.now, self.deadline) {
             return;
         }
-        self.deliver_timeout(net);
-    }
-
-    /// Delivers a timeout, and sends the answer.
-    fn deliver_timeout<N: ClientUdp>(&mut self, net: &mut N)
-        requires { self.old.deadline ≤ self.old.watch.now }
-        ensures elapses { MayElapse self.old.socket.port
-            (state_of self.old (N.log net.old)) (state_of self.new (N.log net.new)) }
-        ensures port { self.new.socket.port ≡ self.old.socket.port }
-        ensures side { self.new.end.role.side ≡ self.old.end.role.side }
-        ensures ready { IsReady self.new }
-    {
         let now = self.watch.now;
         let Ok((step, outgoing)) = self.end.handle_timeout() else {
             return;
