@@ -6,7 +6,7 @@ ghost use Rattle.tftp_capture.specs.Record.{StaysWithin};
 use crate::capture::MAX_RECORD;
 use crate::fault::CaptureFault;
 use crate::number::first;
-use std::io::{BufRead, BufReader, ErrorKind, Read};
+use std::io::{BufRead, BufReader, Read};
 
 /// Fills a buffer. It fails if the input ends before.
 pub(crate) fn fill<R: Read>(
@@ -33,10 +33,10 @@ pub(crate) fn begins<R: Read>(
         return Ok(true);
     }
     let (first, rest) = header.split_at_mut(1);
-    match input.read_exact(first) {
+    match fill(input, first) {
         Ok(()) => {}
-        Err(error) if error.kind() == ErrorKind::UnexpectedEof => return Ok(false),
-        Err(error) => return Err(CaptureFault::of(&error)),
+        Err(CaptureFault::Cut) => return Ok(false),
+        Err(fault) => return Err(fault),
     }
     match fill(input, rest) {
         Ok(()) => Ok(true),
