@@ -14,7 +14,7 @@ returns-in-Ok-clause-ok g c =
     let count = c.in-Ok.count in
     let same = from_start _ _ count (with_items_is c.self.inside.text c.read.new.buffer (search (rules, places))) in
     rw (c.in-Octet.is) (refilled _ _ _ _ _ _ (none_between _ _ _ _ c.if-self.false c.self.view_is) same (λ none. sym
-        same ∙ none) c.in-Ok.ensures.noted)
+    same ∙ none) c.in-Ok.ensures.noted)
 
 pub returns-in-Ok-read_lines-clause-ok : goal.returns-in-Ok-read_lines-clause-ok
 returns-in-Ok-read_lines-clause-ok g c =
