@@ -183,14 +183,15 @@ impl<W: Write> Printer<W> {
             fragments,
             others,
         } = self.left_out;
-        if others > 0 {
-            writeln!(self.output, "not UDP over IPv4: frames {others}")?;
-        }
-        if fragments > 0 {
-            writeln!(self.output, "later fragments: frames {fragments}")?;
-        }
-        if links > 0 {
-            writeln!(self.output, "of another link type: frames {links}")?;
+        let counts = [
+            ("not UDP over IPv4", others),
+            ("later fragments", fragments),
+            ("of another link type", links),
+        ];
+        for (what, frames) in &counts {
+            if *frames > 0 {
+                writeln!(self.output, "{what}: frames {frames}")?;
+            }
         }
         Ok(())
     }

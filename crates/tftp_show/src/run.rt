@@ -186,9 +186,18 @@ fn read_lines<R: Read + Drop, W: Write + Drop>(
     mut printer: Printer<W>,
 ) -> Result<Outcome, ShowFault> {
     let mut line = Vec::new(alloc);
+    print_lines(&mut input, &mut line, &mut printer)
+}
+
+/// Prints the lines of an input, each of which is read into `line`.
+fn print_lines<R: Read, W: Write>(
+    input: &mut BufReader<R>,
+    line: &mut Vec<u8>,
+    printer: &mut Printer<W>,
+) -> Result<Outcome, ShowFault> {
     for number in 1..u64::MAX {
         line.clear();
-        if read_line(&mut input, &mut line)? == 0 {
+        if read_line(input, line)? == 0 {
             return printer.finish(None);
         }
         if line.len() > LONGEST_LINE + FIELDS {
@@ -208,8 +217,17 @@ fn read_frames<R: Read + Drop, W: Write + Drop>(
 ) -> Result<Outcome, ShowFault> {
     let mut capture = Capture::new(alloc, input);
     let mut frame = Vec::new(alloc);
+    print_frames(&mut capture, &mut frame, &mut printer)
+}
+
+/// Prints the frames of a capture, each of which is read into `frame`.
+fn print_frames<R: Read, W: Write>(
+    capture: &mut Capture<R>,
+    frame: &mut Vec<u8>,
+    printer: &mut Printer<W>,
+) -> Result<Outcome, ShowFault> {
     for number in 1..u64::MAX {
-        match capture.next_frame(&mut frame) {
+        match capture.next_frame(frame) {
             Ok(Some(record)) => printer.add_frame(record, frame.as_slice())?,
             Ok(None) => return printer.finish(None),
             Err(CaptureFault::Memory) => return Err(ShowFault::Memory),
