@@ -3,6 +3,7 @@
 use crate::diagram::{Course, Diagram, Flight, MarkKind};
 use crate::ink::Ink;
 use crate::layout::heading::LEFT;
+use crate::layout::notes::sign_of;
 use crate::layout::{Font, Layout, Line, Point, Sign, SignKind, Stroke, foot_of};
 use std::alloc::AllocError;
 
@@ -15,57 +16,83 @@ const SAMPLE: u32 = 30;
 /// From the left edge to the text.
 const INDENT: u32 = 66;
 
-/// What a picture has, and what it means.
+/// What a picture may have.
 #[derive(Clone, Copy)]
 enum Entry {
-    Line(Stroke, &'static str),
-    Sign(SignKind, Ink, &'static str),
+    Line(Stroke),
+    Lost,
+    Mark(MarkKind),
 }
 
-/// The signs of marks, and what they mean.
-static MARKS: [(MarkKind, SignKind, &str); 4] = [
-    (MarkKind::Timeout, SignKind::Clock, "a timeout"),
+/// The entries of a legend, from above, and what each means.
+static ENTRIES: [(Entry, &str); 10] = [
+    (Entry::Line(Stroke::Open), "an end of a transfer is open"),
     (
-        MarkKind::Refusal,
-        SignKind::Square,
+        Entry::Line(Stroke::Arrow),
+        "a datagram, from where it was sent to where it arrived",
+    ),
+    (
+        Entry::Line(Stroke::Repeat),
+        "the same datagram, delivered again",
+    ),
+    (
+        Entry::Line(Stroke::Handover),
+        "a request opens an end at a port of its own",
+    ),
+    (
+        Entry::Line(Stroke::Leader),
+        "from a port to its text at the right",
+    ),
+    (Entry::Lost, "a datagram that never arrived"),
+    (Entry::Mark(MarkKind::Timeout), "a timeout"),
+    (
+        Entry::Mark(MarkKind::Refusal),
         "the store is set to refuse its next write",
     ),
     (
-        MarkKind::Completed,
-        SignKind::Bar,
+        Entry::Mark(MarkKind::Completed),
         "an end closes, its transfer complete",
     ),
     (
-        MarkKind::Failed,
-        SignKind::Bar,
+        Entry::Mark(MarkKind::Failed),
         "an end closes for another reason",
     ),
 ];
 
+impl Entry {
+    /// What it means: this text, or another where the datagrams were seen on the wire.
+    fn meaning(self, text: &'static str, is_seen: bool) -> &'static str {
+        match self {
+            Entry::Line(Stroke::Arrow) if is_seen => "a datagram, when it was seen on the wire",
+            Entry::Line(Stroke::Repeat) if is_seen => "the same datagram, sent again",
+            _ => text,
+        }
+    }
+}
+
 impl Layout {
     /// Adds a line for each kind of mark that the picture has, and sets its height.
     pub(crate) fn add_legend(&mut self, diagram: &Diagram) -> Result<(), AllocError> {
+        let mut flights = diagram.flights.iter();
+        let is_seen = flights.any(|flight| flight.course == Course::Seen);
         let mut middle = self.lowest(diagram).saturating_add(BELOW);
-        let (arrow, repeat) = arrow_texts(diagram);
-        let strokes = [
-            (Stroke::Open, "an end of a transfer is open"),
-            (Stroke::Arrow, arrow),
-            (Stroke::Repeat, repeat),
-            (
-                Stroke::Handover,
-                "a request opens an end at a port of its own",
-            ),
-            (Stroke::Leader, "from a port to its text at the right"),
-        ];
-        for (stroke, text) in &strokes {
-            if self.lines.iter().any(|line| line.stroke == *stroke) {
-                self.add_entry(middle, Entry::Line(*stroke, *text))?;
+        for (entry, text) in &ENTRIES {
+            if self.has(diagram, *entry) {
+                self.add_entry(middle, *entry, entry.meaning(text, is_seen))?;
                 middle = middle.saturating_add(HEIGHT);
             }
         }
-        middle = self.add_sign_entries(diagram, middle)?;
         self.height = middle.saturating_add(4);
         Ok(())
+    }
+
+    /// Whether the picture has this.
+    fn has(&self, diagram: &Diagram, entry: Entry) -> bool {
+        match entry {
+            Entry::Line(stroke) => self.lines.iter().any(|line| line.stroke == stroke),
+            Entry::Lost => diagram.flights.iter().any(Flight::is_lost),
+            Entry::Mark(kind) => diagram.marks.iter().any(|mark| mark.kind == kind),
+        }
     }
 
     /// The line of the lowest text.
@@ -77,65 +104,31 @@ impl Layout {
         lowest
     }
 
-    /// Adds the entries of the signs, and returns the height below them.
-    fn add_sign_entries(&mut self, diagram: &Diagram, from: u32) -> Result<u32, AllocError> {
-        let mut middle = from;
-        if diagram.flights.iter().any(Flight::is_lost) {
-            let lost = Entry::Sign(SignKind::Cross, Ink::Lost, "a datagram that never arrived");
-            self.add_entry(middle, lost)?;
-            middle = middle.saturating_add(HEIGHT);
-        }
-        for (kind, sign, text) in &MARKS {
-            if diagram.marks.iter().any(|mark| mark.kind == *kind) {
-                let entry = Entry::Sign(*sign, Ink::of_mark(*kind), *text);
-                self.add_entry(middle, entry)?;
-                middle = middle.saturating_add(HEIGHT);
-            }
-        }
-        Ok(middle)
-    }
-
     /// Adds a sample and its text.
-    fn add_entry(&mut self, middle: u32, entry: Entry) -> Result<(), AllocError> {
-        let text = match entry {
-            Entry::Line(stroke, text) => {
-                self.lines.push(Line {
-                    from: Point { x: LEFT, y: middle },
-                    to: Point {
-                        x: LEFT + SAMPLE,
-                        y: middle,
-                    },
-                    ink: Ink::Client,
-                    stroke,
-                })?;
-                text
-            }
-            Entry::Sign(kind, ink, text) => {
-                let x = LEFT + SAMPLE / 2;
-                self.signs.push(Sign {
-                    at: Point { x, y: middle },
-                    ink,
-                    kind,
-                })?;
-                text
-            }
-        };
+    fn add_entry(&mut self, middle: u32, entry: Entry, text: &str) -> Result<(), AllocError> {
+        match entry {
+            Entry::Line(stroke) => self.lines.push(Line {
+                from: Point { x: LEFT, y: middle },
+                to: Point {
+                    x: LEFT + SAMPLE,
+                    y: middle,
+                },
+                ink: Ink::Client,
+                stroke,
+            })?,
+            Entry::Lost => self.add_sample(middle, Ink::Lost, SignKind::Cross)?,
+            Entry::Mark(kind) => self.add_sample(middle, Ink::of_mark(kind), sign_of(kind))?,
+        }
         self.add_plain(INDENT, middle.saturating_add(4), Font::Plain, text)
     }
-}
 
-/// What an arrow means, and a dashed arrow.
-fn arrow_texts(diagram: &Diagram) -> (&'static str, &'static str) {
-    let mut flights = diagram.flights.iter();
-    if flights.any(|flight| flight.course == Course::Seen) {
-        (
-            "a datagram, when it was seen on the wire",
-            "the same datagram, sent again",
-        )
-    } else {
-        (
-            "a datagram, from where it was sent to where it arrived",
-            "the same datagram, delivered again",
-        )
+    fn add_sample(&mut self, middle: u32, ink: Ink, kind: SignKind) -> Result<(), AllocError> {
+        let x = LEFT + SAMPLE / 2;
+        self.signs.push(Sign {
+            at: Point { x, y: middle },
+            ink,
+            kind,
+        })?;
+        Ok(())
     }
 }

@@ -85,7 +85,7 @@ fn point_of(mark: &Mark, columns: &Columns) -> Point {
     }
 }
 
-fn sign_of(kind: MarkKind) -> SignKind {
+pub(crate) fn sign_of(kind: MarkKind) -> SignKind {
     match kind {
         MarkKind::Timeout => SignKind::Clock,
         MarkKind::Refusal => SignKind::Square,
