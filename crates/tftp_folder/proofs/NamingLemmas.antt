@@ -5,7 +5,7 @@ use Rattle.tftp_disk.specs.Changes.{changes, renames}
 use Rattle.tftp_disk.specs.DiskTrace.{DiskEvent, Done}
 use Rattle.tftp_disk.specs.DiskTrace.DiskEvent.{Removed}
 use Rattle.tftp_folder.specs.Commit.{LooksThenRenames, MayRemove}
-use Rattle.tftp_folder.specs.Draft.{LooksForOwn, NamesDraft, StaysDone, TakesBack}
+use Rattle.tftp_folder.specs.Draft.{KeepsDone, LooksForOwn, NamesDraft, StaysDone, TakesBack}
 use Rattle.tftp_folder.specs.declared.folder_draft.FolderDraft.{FolderDraft}
 
 pub names_stay : {F : Type 0} (a b : FolderDraft F) → StaysDone a b → (before after : List DiskEvent) (replaces : Bool)
@@ -37,6 +37,10 @@ module _ {F : Type 0} where
   -- a draft has its names and its file after both
   pub stays_done : (a b c : FolderDraft F) → StaysDone a b → StaysDone b c → StaysDone a c
   stays_done a b c first second = search rules
+
+  -- a draft that is as it was, and then is done
+  pub then_keeps : (a b c : FolderDraft F) → StaysDone a b → KeepsDone b c → KeepsDone a c
+  then_keeps a b c first second = search rules
 
   -- calls that only look, and then those
   pub then_takes_back : (draft draft' : FolderDraft F) (before between after : List DiskEvent)

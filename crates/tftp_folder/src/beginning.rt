@@ -86,17 +86,17 @@ pub(crate) fn begin_draft<D: Disk>(
         → IsInside (string_bytes served.now.root) (string_bytes memory.target)
         → StaysInside (string_bytes served.now.root) (D.log disk.old) (D.log disk.new) }
 {
+    let place = served.place_to_write(disk, path, memory.target.as_str(), existing)?;
     let DraftMemory {
         target,
         draft,
         buffer,
     } = memory;
-    let place = served.place_to_write(disk, path, target, existing)?;
     let made = served.make_draft(disk, alloc, port, draft)?;
     let MadeDraft { path, file } = made;
-    let replaced = place.replaced;
-    let mut draft = FolderDraft::new(DiskWriter::new(file, buffer), port, path, place);
-    match replaced {
+    let writer = DiskWriter::new(file, buffer);
+    let mut draft = FolderDraft::new(writer, port, path, target, place.folder);
+    match place.replaced {
         Some(found) => match draft.take_permissions(&found) {
             Ok(_) => Ok(draft),
             Err(error) => Err(served.write_refused(&error)),

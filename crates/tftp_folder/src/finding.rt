@@ -34,9 +34,16 @@ const MOST_LOOKS: u32 = 4;
 
 /// A path of the store, resolved on the system.
 #[derive(Drop)]
-pub(crate) struct Location {
-    /// The path on the system.
-    pub(crate) path: String,
+struct Location {
+    /// The path on the system, which has no links.
+    path: String,
+    /// What was found there.
+    found: Option<Found>,
+}
+
+/// What was found at a path and above it.
+#[derive(Clone, Copy)]
+struct Seen {
     /// A component of the path is a link.
     has_link: bool,
     /// The parent folder, if that is not the root.
@@ -63,10 +70,8 @@ pub(crate) struct OpenedFile<F> {
 }
 
 /// A place for a new file, in a folder without links on its path.
-#[derive(Drop)]
+#[derive(Clone, Copy)]
 pub(crate) struct DraftPlace {
-    /// The path on the system.
-    pub(crate) path: String,
     /// The folder of the path.
     pub(crate) folder: FileId,
     /// What was found of the file that is to be replaced, if there is one.
@@ -94,32 +99,23 @@ impl ServedFolder {
 
     /// Looks at a path of the store, after each folder above it, from the root down. `Missing` if a
     /// folder is. `target` is the path on the system.
-    fn walk<L: Looks>(
-        &self,
-        looks: &mut L,
-        path: &Path,
-        target: String,
-    ) -> Result<Location, StoreFault>
+    fn walk<L: Looks>(&self, looks: &mut L, path: &Path, target: &str) -> Result<Seen, StoreFault>
         ensures fault { IfErr result MayNotOpen }
-        ensures path { IfOk result (λ location. location.path ≡ target) }
-        ensures found { IfOk result (λ location. LooksLast (string_bytes target) location.found
-            (L.log looks.new)) }
+        ensures found { IfOk result (λ seen. LooksLast target.now seen.found (L.log looks.new)) }
         ensures looks { OnlyLooks (L.log looks.old) (L.log looks.new) }
-        ensures inside { IsInside (string_bytes self.now.root) (string_bytes target)
+        ensures inside { IsInside (string_bytes self.now.root) target.now
             → StaysInside (string_bytes self.now.root) (L.log looks.old) (L.log looks.new) }
     {
-        let above = self.walk_folders(looks, path, target.as_str())?;
-        match looks.look(target.as_str()) {
-            Ok(found) => Ok(Location {
-                path: target,
+        let above = self.walk_folders(looks, path, target)?;
+        match looks.look(target) {
+            Ok(found) => Ok(Seen {
                 has_link: above.has_link || found.kind == Kind::Link,
                 folder: above.folder,
                 found: Some(found),
             }),
             Err(error) => {
                 if error.kind() == ErrorKind::NotFound {
-                    Ok(Location {
-                        path: target,
+                    Ok(Seen {
                         has_link: above.has_link,
                         folder: above.folder,
                         found: None,
@@ -197,8 +193,6 @@ impl ServedFolder {
         match looks.look(text) {
             Ok(found) => Ok(Location {
                 path: String::from_str(alloc, text)?,
-                has_link: false,
-                folder: None,
                 found: Some(found),
             }),
             Err(error) => Err(self.open_refused(&error)),
@@ -222,11 +216,14 @@ impl ServedFolder {
             (L.log looks.new) }
     {
         let target = self.path_of(alloc, path)?;
-        let location = self.walk(looks, path, target)?;
-        if location.has_link {
-            self.follow(looks, alloc, location.path.as_str())
+        let seen = self.walk(looks, path, target.as_str())?;
+        if seen.has_link {
+            self.follow(looks, alloc, target.as_str())
         } else {
-            Ok(location)
+            Ok(Location {
+                path: target,
+                found: seen.found,
+            })
         }
     }
 
@@ -352,26 +349,24 @@ impl ServedFolder {
         &self,
         disk: &mut D,
         path: &Path,
-        target: String,
+        target: &str,
         existing: Existing,
     ) -> Result<DraftPlace, StoreFault>
         ensures fault { IfErr result (MayNotName (is_replaced existing)) }
-        ensures place { IfOk result (λ place. place.path ≡ target) }
         ensures looks { OnlyLooks (D.log disk.old) (D.log disk.new) }
         ensures inside { IsInside (string_bytes self.now.root) (string_bytes self.now.drafts)
-            → IsInside (string_bytes self.now.root) (string_bytes target)
+            → IsInside (string_bytes self.now.root) target.now
             → StaysInside (string_bytes self.now.root) (D.log disk.old) (D.log disk.new) }
     {
-        let location = match self.walk(disk, path, target) {
-            Ok(location) => location,
+        let seen = match self.walk(disk, path, target) {
+            Ok(seen) => seen,
             Err(fault) => return Err(self.place_refused(fault)),
         };
-        self.check_place(disk, &location, existing)?;
-        let folder = self.folder_to_write(disk, location.folder)?;
+        self.check_place(disk, target, &seen, existing)?;
+        let folder = self.folder_to_write(disk, seen.folder)?;
         Ok(DraftPlace {
-            path: location.path,
             folder,
-            replaced: location.found,
+            replaced: seen.found,
         })
     }
 
@@ -393,22 +388,23 @@ impl ServedFolder {
     fn check_place<D: Disk>(
         &self,
         disk: &mut D,
-        location: &Location,
+        target: &str,
+        seen: &Seen,
         existing: Existing,
     ) -> Result<(), StoreFault>
         ensures fault { IfErr result (MayNotName (is_replaced existing)) }
         ensures looks { OnlyLooks (D.log disk.old) (D.log disk.new) }
-        ensures inside { IsInside (string_bytes self.now.root) (string_bytes location.now.path)
+        ensures inside { IsInside (string_bytes self.now.root) target.now
             → StaysInside (string_bytes self.now.root) (D.log disk.old) (D.log disk.new) }
     {
-        if location.found.is_some() && existing == Existing::Refused {
+        if seen.found.is_some() && existing == Existing::Refused {
             return Err(StoreFault::Exists);
         }
-        if location.has_link {
+        if seen.has_link {
             return Err(self.refused(Reason::ThroughLink));
         }
-        match &location.found {
-            Some(found) => match check_replaced(disk, location.path.as_str(), found) {
+        match &seen.found {
+            Some(found) => match check_replaced(disk, target, found) {
                 Ok(()) => Ok(()),
                 Err(NameFault::System(error)) => Err(self.write_refused(&error)),
                 Err(NameFault::Rule(reason)) => Err(self.refused(reason)),

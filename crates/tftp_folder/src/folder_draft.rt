@@ -11,7 +11,6 @@ ghost use Rattle.tftp_folder.specs.Inside.{IsInside, StaysInside};
 ghost use Rattle.tftp_folder.specs.Leaves.{OnlyLooks};
 ghost use Rattle.tftp_folder.specs.Modes.{are_permissions};
 
-use crate::finding::DraftPlace;
 use crate::replacing::permissions_of;
 use std::alloc::AllocError;
 use std::fs::OpenFile;
@@ -59,21 +58,22 @@ impl<F: Write> FolderDraft<F> {
         writer: DiskWriter<F>,
         port: u16,
         draft: String,
-        place: DraftPlace,
+        target: String,
+        folder: FileId,
     ) -> FolderDraft<F>
         requires placed { made_at (calls_of writer) ≡ Some (string_bytes draft) }
         requires sound { sync_failed (calls_of writer) ≡ false }
         requires modes { modes_asked (calls_of writer) ≡ [] }
         ensures writer { result.writer ≡ writer }
         ensures draft { result.draft ≡ draft }
-        ensures target { result.target ≡ place.path }
+        ensures target { result.target ≡ target }
     {
         FolderDraft {
             writer,
             port,
             draft,
-            target: place.path,
-            folder: place.folder,
+            target,
+            folder,
             unsynced: 0,
             failure: None,
         }

@@ -91,20 +91,15 @@ impl<D: Disk> FolderStore<D> {
         ensures inside { IfOk result (λ store. StaysInside (string_bytes store.folder.root)
             (D.log disk) (D.log store.disk)) }
     {
-        let root = resolve_root(&mut disk, alloc, root)?;
-        let drafts = root.clone()?;
-        let reason = SharedReason::new(alloc)?;
+        let folder = served_root(&mut disk, alloc, root)?;
+        let lengths = WireLengths::new(alloc, length_memory)?;
         Ok(FolderStore {
             disk,
-            folder: ServedFolder {
-                root,
-                drafts,
-                reason,
-            },
+            folder,
             is_read_only: false,
             uploads: None,
             port: 0,
-            lengths: WireLengths::new(alloc, length_memory)?,
+            lengths,
             unsynced: Cell::new(None),
             may_sync: Cell::new(false),
         })
@@ -253,20 +248,29 @@ impl<D: Disk> FolderStore<D> {
     }
 }
 
-/// The canonical path of a folder, without a trailing slash.
-fn resolve_root<L: Looks>(looks: &mut L, alloc: Global, root: &str) -> io::Result<String>
-    ensures root { IfOk result (λ path. IsRootOf root.now (string_bytes path) (L.log looks.old)
-        (L.log looks.new)) }
+/// The folder of a path, by its canonical path without a trailing slash. Its drafts are in it.
+fn served_root<L: Looks>(looks: &mut L, alloc: Global, root: &str) -> io::Result<ServedFolder>
+    ensures root { IfOk result (λ served. IsRootOf root.now (string_bytes served.root)
+        (L.log looks.old) (L.log looks.new)) }
+    ensures drafts { IfOk result (λ served. string_bytes served.drafts
+        ≡ string_bytes served.root) }
     ensures looks { changes (L.log looks.new) ≡ changes (L.log looks.old) }
-    ensures inside { IfOk result (λ path. StaysInside (string_bytes path) (L.log looks.old)
-        (L.log looks.new)) }
+    ensures inside { IfOk result (λ served. StaysInside (string_bytes served.root)
+        (L.log looks.old) (L.log looks.new)) }
 {
     let canonical = looks.resolve(alloc, root)?;
     let text = canonical.as_str();
     if looks.follow(text)?.kind != Kind::Folder {
         return Err(io::Error::from_raw_os_error(ENOTDIR));
     }
-    Ok(String::from_str(alloc, as_folder(text))?)
+    let root = String::from_str(alloc, as_folder(text))?;
+    let drafts = root.clone()?;
+    let reason = SharedReason::new(alloc)?;
+    Ok(ServedFolder {
+        root,
+        drafts,
+        reason,
+    })
 }
 
 /// A path without its last slash, if it has one.

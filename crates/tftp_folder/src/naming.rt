@@ -100,10 +100,7 @@ pub(crate) fn give_name<D: Disk>(
         Ok(folder) => folder,
         Err(error) => return Err(NameFault::System(error)),
     };
-    match name_in(disk, &folder, root, draft, existing) {
-        Ok(()) => Ok(()),
-        Err(fault) => Err(fault),
-    }
+    name_in(disk, &folder, root, draft, existing)
 }
 
 /// Gives a draft its name, looks at the name again, syncs the open folder, and removes the draft's own

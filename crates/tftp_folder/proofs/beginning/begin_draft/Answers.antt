@@ -6,6 +6,7 @@ use Rattle.tftp_disk.specs.Changes.{changes}
 use Rattle.tftp_disk.specs.DiskTrace.{DiskEvent}
 use Rattle.tftp_folder.specs.Begin.{TriesDraft}
 use Rattle.tftp_folder.specs.Begin.TriesDraft.{Nothing}
+use Rattle.tftp_folder.specs.Inside.{IsInside}
 use Rattle.tftp_folder.proofs.MakingLemmas.{calls_inside, follows_by, made_calls, makes_draft, new_draft_there, on_err, others_by, tries_by}
 use Rattle.tftp_folder.proofs.PlacedLemmas.{same_there, still_by, then_others}
 use Rattle.tftp_folder.proofs.ReachedLemmas.{draft_reaches, looks_reach, then_reaches}
@@ -31,7 +32,7 @@ returns-in_err-made-clause-follows g c = grind (arith, common_steps, follows_by)
 
 pub returns-in_err-made-clause-inside : goal.returns-in_err-made-clause-inside
 returns-in_err-made-clause-inside g c = λ drafts target all.
-    calls_inside _ _ _ _ _ drafts c.in_err-made.ensures.err (c.place_to_write.ensures.inside drafts target all)
+    calls_inside _ _ _ _ _ drafts c.in_err-made.ensures.err (c.place_to_write.ensures.inside drafts (subst (IsInside (string_bytes c.args.served.now.root)) (sym c.as_str.ensures.value) target) all)
 
 pub returns-in-Ok-clause-others : goal.returns-in-Ok-clause-others
 returns-in-Ok-clause-others g c =
@@ -43,8 +44,7 @@ returns-in-Ok-clause-follows g c = grind (arith, common_steps, follows_by, made_
 
 pub returns-in-Ok-clause-inside : goal.returns-in-Ok-clause-inside
 returns-in-Ok-clause-inside g c = λ drafts target all.
-    calls_inside _ _ _ _ _ drafts (made_calls _ _ _ _ _ _ c.in_ok-made.ensures.ok) (c.place_to_write.ensures.inside
-    drafts target all)
+    calls_inside _ _ _ _ _ drafts (made_calls _ _ _ _ _ _ c.in_ok-made.ensures.ok) (c.place_to_write.ensures.inside drafts (subst (IsInside (string_bytes c.args.served.now.root)) (sym c.as_str.ensures.value) target) all)
 
 pub returns-in-Err-clause-others : goal.returns-in-Err-clause-others
 returns-in-Err-clause-others g c =
@@ -57,8 +57,7 @@ returns-in-Err-clause-follows g c =
 
 pub returns-in-Err-clause-inside : goal.returns-in-Err-clause-inside
 returns-in-Err-clause-inside g c = λ drafts target all.
-    calls_inside _ _ _ _ _ drafts (made_calls _ _ _ _ _ _ c.in_ok-made.ensures.ok) (c.place_to_write.ensures.inside
-    drafts target all)
+    calls_inside _ _ _ _ _ drafts (made_calls _ _ _ _ _ _ c.in_ok-made.ensures.ok) (c.place_to_write.ensures.inside drafts (subst (IsInside (string_bytes c.args.served.now.root)) (sym c.as_str.ensures.value) target) all)
 
 pub returns-in-None-clause-others : goal.returns-in-None-clause-others
 returns-in-None-clause-others g c =
@@ -70,8 +69,7 @@ returns-in-None-clause-follows g c = grind (arith, common_steps, follows_by, mad
 
 pub returns-in-None-clause-inside : goal.returns-in-None-clause-inside
 returns-in-None-clause-inside g c = λ drafts target all.
-    calls_inside _ _ _ _ _ drafts (made_calls _ _ _ _ _ _ c.in_ok-made.ensures.ok) (c.place_to_write.ensures.inside
-    drafts target all)
+    calls_inside _ _ _ _ _ drafts (made_calls _ _ _ _ _ _ c.in_ok-made.ensures.ok) (c.place_to_write.ensures.inside drafts (subst (IsInside (string_bytes c.args.served.now.root)) (sym c.as_str.ensures.value) target) all)
 
 pub returns-in-Err-clause-err : goal.returns-in-Err-clause-err
 returns-in-Err-clause-err g c =
@@ -82,7 +80,7 @@ returns-in-Err-clause-err g c =
 pub returns-in-Ok-clause-ok : goal.returns-in-Ok-clause-ok
 returns-in-Ok-clause-ok g c = record {
   aim =
-      ap string_bytes (c.take_permissions.ensures.stays.names.target ∙ c.new-draft.ensures.target ∙ c.in_ok-place.ensures.place);
+      ap string_bytes (c.take_permissions.ensures.stays.names.target ∙ c.new-draft.ensures.target);
   empty = search rules;
   made =
       makes_draft (string_bytes c.args.served.now.drafts) c.args.port (string_bytes c.in_ok-made.made.path)
@@ -93,7 +91,7 @@ returns-in-Ok-clause-ok g c = record {
 
 pub returns-in-None-clause-ok : goal.returns-in-None-clause-ok
 returns-in-None-clause-ok g c = record {
-  aim = ap string_bytes (c.new-draft.ensures.target ∙ c.in_ok-place.ensures.place);
+  aim = ap string_bytes (c.new-draft.ensures.target);
   empty = search rules;
   made =
       makes_draft (string_bytes c.args.served.now.drafts) c.args.port (string_bytes c.in_ok-made.made.path)
@@ -104,12 +102,12 @@ returns-in-None-clause-ok g c = record {
 pub returns-in-Ok-clause-there : goal.returns-in-Ok-clause-there
 returns-in-Ok-clause-there g c =
     same_there _ _ _ c.take_permissions.ensures.stays.names (new_draft_there _ _ _ _ _ _ _ _ _ (ap string_bytes
-    c.new-draft.ensures.draft) refl c.new-draft.ensures.writer c.new.ensures.file c.in_ok-made.ensures.ok)
+    c.new-draft.ensures.draft) refl c.new-draft.ensures.writer c.new-writer.ensures.file c.in_ok-made.ensures.ok)
 
 pub returns-in-None-clause-there : goal.returns-in-None-clause-there
 returns-in-None-clause-there g c =
     new_draft_there _ _ _ _ _ _ _ _ _ (ap string_bytes c.new-draft.ensures.draft) refl c.new-draft.ensures.writer
-    c.new.ensures.file c.in_ok-made.ensures.ok
+    c.new-writer.ensures.file c.in_ok-made.ensures.ok
 
 pub returns-in_err-place-clause-reaches : goal.returns-in_err-place-clause-reaches
 returns-in_err-place-clause-reaches g c = search (rules, looks_reach)
