@@ -3,7 +3,7 @@
 ghost use Rattle.std.specs.Prelude.{◌≡◌, ◌≤◌, true, IfOk, OnOk};
 ghost use Rattle.tftp_wire.specs.declared.mode.Mode.TheVariants.{Octet};
 ghost use Rattle.tftp_disk.specs.DiskSource.{source_calls};
-ghost use Rattle.tftp_disk.specs.Given.{is_at_start};
+ghost use Rattle.tftp_disk.specs.Given.{is_at_start, opened_at};
 ghost use Rattle.tftp_disk.specs.Measuring.{StaysOpen, calls_on};
 ghost use Rattle.tftp_client.specs.Outbound.{HasLength, IsLongAs, IsPassed};
 ghost use Rattle.tftp_client.specs.Sent.{IsOpenedAt};
@@ -50,9 +50,7 @@ impl<F: Read + Seek + OpenFile + Drop> Outbound<F> {
             return Err(LocalError::NotAFile);
         }
         let mut file = view.open(local)?;
-        let host_bytes = file.examine()?.bytes;
-        check_known(&mut file, host_bytes)?;
-        let length = text_length(&mut file, mode, host_bytes)?;
+        let length = text_length(&mut file, mode)?;
         Ok(Outbound {
             source: DiskSource::new(alloc, file, mode, READ_BUFFER)?,
             length,
@@ -76,22 +74,23 @@ fn check_known<F: Read>(file: &mut DiskFile<F>, host_bytes: u64) -> Result<(), L
     }
 }
 
-/// The length of a file of which the system said so many bytes. In octet both lengths are that, and
-/// nothing is read. On the wire it is `MAX_WIRE + 1` if it exceeds `MAX_WIRE`.
-fn text_length<F: Read + Seek + Drop>(
+/// The length of a file that is at its start. In octet both lengths are that which the system says of
+/// it, and no byte of a file that states one is read. On the wire it is `MAX_WIRE + 1` if it exceeds
+/// `MAX_WIRE`.
+fn text_length<F: Read + Seek + OpenFile + Drop>(
     file: &mut DiskFile<F>,
     mode: Mode,
-    host_bytes: u64,
 ) -> Result<TextLength, LocalError>
-    requires told { IsLongAs host_bytes (calls_on file.old) }
-    requires start { is_at_start (calls_on file.old) ≡ true }
+    requires { is_at_start (calls_on file.old) ≡ true }
     ensures start { OnOk result (is_at_start (calls_on file.new) ≡ true) }
     ensures told { IfOk result (λ length. mode ≡ Octet
         → IsLongAs length.bytes (calls_on file.new)) }
     ensures long { IfOk result (λ length. length.wire_bytes ≤ MAX_WIRE
         → HasLength mode length.bytes length.wire_bytes (calls_on file.new)) }
-    ensures stays { StaysOpen file.old file.new }
+    ensures place { opened_at (calls_on file.new) ≡ opened_at (calls_on file.old) }
 {
+    let host_bytes = file.examine()?.bytes;
+    check_known(file, host_bytes)?;
     match mode {
         Mode::Octet => Ok(TextLength {
             bytes: host_bytes,

@@ -220,10 +220,12 @@ fn put<E: Eprint, N: ClientUdp, D: Disk>(
         Err(error) => return Err(Failure::of_file(error)),
     };
     let Outbound { source, length } = outbound;
-    let mut files: Files<SourceOf<D>, LocalFile<D>> = Files::Source(source);
     match ask_to_put(net, alloc, job, length.wire_bytes) {
         Ok(conversation) => {
-            converse(rt, net, conversation, &mut files, length.bytes, job, waits)
+            let mut files: Files<SourceOf<D>, LocalFile<D>> = Files::Source(source);
+            let ended = converse(rt, net, conversation, &mut files, length.bytes, job, waits);
+            drop(files);
+            ended
         }
         Err(failure) => Err(failure),
     }
