@@ -86,12 +86,12 @@ pub(crate) fn begin_draft<D: Disk>(
         → IsInside (string_bytes served.now.root) (string_bytes memory.target)
         → StaysInside (string_bytes served.now.root) (D.log disk.old) (D.log disk.new) }
 {
-    let place = served.place_to_write(disk, path, memory.target.as_str(), existing)?;
     let DraftMemory {
         target,
         draft,
         buffer,
     } = memory;
+    let place = served.place_to_write(disk, path, target.as_str(), existing)?;
     let made = served.make_draft(disk, alloc, port, draft)?;
     let MadeDraft { path, file } = made;
     let writer = DiskWriter::new(file, buffer);
