@@ -223,9 +223,7 @@ fn put<E: Eprint, N: ClientUdp, D: Disk>(
     match ask_to_put(net, alloc, job, length.wire_bytes) {
         Ok(conversation) => {
             let mut files: Files<SourceOf<D>, LocalFile<D>> = Files::Source(source);
-            let ended = converse(rt, net, conversation, &mut files, length.bytes, job, waits);
-            drop(files);
-            ended
+            converse(rt, net, conversation, &mut files, length.bytes, job, waits)
         }
         Err(failure) => Err(failure),
     }

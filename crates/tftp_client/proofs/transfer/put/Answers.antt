@@ -10,8 +10,8 @@ returns-in-Ok-ask_to_put g c =
     let outbound = c.in-Ok.outbound in
     let long = c.in-Ok.ensures.long c.in-Ok-ask_to_put.ensures.fits in
     runs_once _ _ (λ local. refl) (λ before after committed same. same) c.args.job.now Write outbound.length.bytes
-    outbound.length.wire_bytes c.args.waits.now _ _ _ _ _ _ _ c.converse-ended.new.files c.in-Ok-ask_to_put.ensures.may
+    outbound.length.wire_bytes c.args.waits.now _ _ _ _ _ _ _ c.converse.new.files c.in-Ok-ask_to_put.ensures.may
     c.in-Ok-ask_to_put.ensures.begins tt tt tt (octet_length c.args.job.now.mode _ _ _ long) (
       c.in-Ok.ensures.opened,
       long,
-    ) (sends_calls outbound.source c.converse-ended.new.files _ c.converse-ended.ensures.keeps) refl c.converse-ended.ensures
+    ) (sends_calls outbound.source c.converse.new.files _ c.converse.ensures.keeps) refl c.converse.ensures
