@@ -3,7 +3,7 @@
 use tftp_ends::{Endpoint, Outcome};
 
 /// Which way the file of a transfer goes.
-#[derive(Clone, Copy, Debug, PartialEq, Eq)]
+#[derive(Clone, Copy)]
 pub enum Direction {
     /// A client reads it (RRQ).
     Read,
@@ -12,7 +12,7 @@ pub enum Direction {
 }
 
 /// What happened at a server, for whoever counts it.
-#[derive(Clone, Copy, Debug, PartialEq, Eq)]
+#[derive(Clone, Copy)]
 pub enum Entry {
     /// A request opened a transfer.
     Opened(Direction),
@@ -36,7 +36,7 @@ pub enum Entry {
 }
 
 /// An open transfer, as a report of them has it.
-#[derive(Clone, Copy, Debug)]
+#[derive(Clone, Copy)]
 pub struct OpenTransfer<'a> {
     /// The server's port.
     pub port: u16,

@@ -7,7 +7,7 @@ ghost use Rattle.tftp_sockets.specs.declared.watch.TheConstants.{LONGEST_WAIT};
 use crate::watch::LONGEST_WAIT;
 
 /// The port of a transfer, with its socket.
-#[derive(Debug, Drop)]
+#[derive(Drop)]
 pub struct Port<S> {
     /// The identifier of the transfer: the number of its UDP port.
     pub tid: u16,

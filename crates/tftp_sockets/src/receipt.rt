@@ -3,7 +3,7 @@
 use tftp_ends::Endpoint;
 
 /// The result of a receive at a port.
-#[derive(Clone, Copy, Debug, PartialEq, Eq)]
+#[derive(Clone, Copy)]
 pub enum Receipt {
     /// A datagram: its sender, and its length in bytes.
     Datagram(Endpoint, usize),

@@ -21,7 +21,7 @@ const _: () = prove!(LONGEST_WAIT == 1_000);
 /// Between two readings it advances as much as the clock, at most by [`LONGEST_WAIT`]. So a clock
 /// that jumps ahead, as after a suspension, ages a transfer by at most one wait. A clock that goes
 /// back does not move it.
-#[derive(Clone, Copy, Debug, PartialEq, Eq)]
+#[derive(Clone, Copy)]
 pub struct Watch {
     /// The time since the watch was started.
     pub now: u64,
