@@ -11,7 +11,7 @@ use tftp_ends::Outcome;
 use tftp_sockets::{Direction, Entry};
 
 /// The counts of what a server noted. A count stays at 2^64 - 1 once it is there.
-#[derive(Clone, Copy, Debug, PartialEq, Eq)]
+#[derive(Clone, Copy)]
 pub struct Counts {
     /// The datagrams to the request port that opened no transfer.
     pub requests: RequestCounts,
@@ -24,7 +24,7 @@ pub struct Counts {
 }
 
 /// The datagrams to the request port that opened no transfer, by their answer.
-#[derive(Clone, Copy, Debug, PartialEq, Eq)]
+#[derive(Clone, Copy)]
 pub struct RequestCounts {
     pub refused: u64,
     pub busy: u64,
@@ -33,7 +33,7 @@ pub struct RequestCounts {
 }
 
 /// The transfers of one direction.
-#[derive(Clone, Copy, Debug, PartialEq, Eq)]
+#[derive(Clone, Copy)]
 pub struct TransferCounts {
     pub opened: u64,
     pub closed: u64,
@@ -43,7 +43,7 @@ pub struct TransferCounts {
 }
 
 /// The closed transfers by their outcome.
-#[derive(Clone, Copy, Debug, PartialEq, Eq)]
+#[derive(Clone, Copy)]
 pub struct OutcomeCounts {
     pub complete: u64,
     pub timed_out: u64,

@@ -4,7 +4,7 @@ ghost use Rattle.std.specs.Prelude.{◌≡◌, []};
 ghost use Rattle.tftp_status.specs.Datagrams.{datagrams_in, moved};
 
 /// Which way a datagram went.
-#[derive(Clone, Copy, Debug, PartialEq, Eq)]
+#[derive(Clone, Copy)]
 pub enum Way {
     /// The server received it.
     Received,
@@ -14,7 +14,7 @@ pub enum Way {
 
 /// The datagrams of a server, those of its requests among them. A count stays at 2^64 - 1 once it is
 /// there.
-#[derive(Clone, Copy, Debug, PartialEq, Eq)]
+#[derive(Clone, Copy)]
 pub struct Datagrams {
     pub received: u64,
     /// Those that the system took.

@@ -72,10 +72,11 @@ impl fmt::Display for Kind {
     ghost output = { λ kind. Some (kind_text kind) };
 
     fn fmt<W: fmt::Write>(&self, f: &mut fmt::Formatter<W>) -> fmt::Result {
-        match *self {
-            Kind::Counter => f.write_str("counter"),
-            Kind::Gauge => f.write_str("gauge"),
-        }
+        let name = match *self {
+            Kind::Counter => "counter",
+            Kind::Gauge => "gauge",
+        };
+        f.write_str(name)
     }
 }
 
@@ -96,26 +97,6 @@ impl fmt::Display for Head<'_> {
     fn fmt<W: fmt::Write>(&self, f: &mut fmt::Formatter<W>) -> fmt::Result {
         let (name, kind, help) = (self.name, self.kind, self.help);
         write!(f, "# HELP {name} {help}\n# TYPE {name} {kind}\n")
-    }
-}
-
-/// A sample of a metric that has no label of its own.
-#[derive(Clone, Copy)]
-struct Lone<'a> {
-    name: &'a str,
-    labels: Labels,
-    value: u64,
-}
-
-impl fmt::Display for Lone<'_> {
-    ghost use Rattle.std.specs.Prelude.{Some};
-    ghost use Rattle.tftp_status.specs.StatusText.{lone_text};
-
-    ghost output = { λ lone. Some (lone_text lone.name.now lone.labels lone.value) };
-
-    fn fmt<W: fmt::Write>(&self, f: &mut fmt::Formatter<W>) -> fmt::Result {
-        let (name, labels, value) = (self.name, self.labels, self.value);
-        write!(f, "{name}{{{labels}}} {value}\n")
     }
 }
 
@@ -467,16 +448,12 @@ impl fmt::Display for Metric<'_> {
     ghost output = { λ metric. Some (metric_of metric) };
 
     fn fmt<W: fmt::Write>(&self, f: &mut fmt::Formatter<W>) -> fmt::Result {
+        let (name, labels, value) = (self.name, self.labels, self.value);
         let head = Head {
-            name: self.name,
+            name,
             kind: self.kind,
             help: self.help,
         };
-        let sample = Lone {
-            name: self.name,
-            labels: self.labels,
-            value: self.value,
-        };
-        write!(f, "{head}{sample}")
+        write!(f, "{head}{name}{{{labels}}} {value}\n")
     }
 }
