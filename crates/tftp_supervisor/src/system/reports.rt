@@ -72,8 +72,12 @@ impl Reports {
         Ok(())
     }
 
-    /// Has the output of a server be reported that began late.
+    /// Has the output of a server be reported that began late, but for one that was started since the
+    /// last wait: the next one registers it, and the system refuses to have it registered twice.
     pub(super) fn add(&mut self, child: &Child, index: usize) -> io::Result<()> {
+        if index >= self.registered {
+            return Ok(());
+        }
         let Some(pipe) = child.stdout.as_ref() else {
             return Ok(());
         };
