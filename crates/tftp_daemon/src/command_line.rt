@@ -23,9 +23,7 @@ use crate::options::{
     command,
 };
 use crate::ports::{NoPorts, port_range};
-use crate::refused::{
-    MOST_SERVERS, excluded, faulty_status, report_addresses, report_conflict, report_invalid,
-};
+use crate::refused::{MOST_SERVERS, Refusal, excluded, faulty_status, report};
 use crate::surroundings::Surroundings;
 use clap::{ArgMatches, Command};
 use std::alloc::{AllocError, Global};
@@ -109,27 +107,41 @@ fn read_matches<'a, P: Print + Eprint>(
         (StartsInRows surroundings.processors (rows_of (found_of matches.now)))) }
     ensures status { IfOk result (λ line. IfExit line (λ status. status ≡ 2)) }
 {
+    match read_config(alloc, matches, surroundings) {
+        Ok(Ok(config)) => Ok(CommandLine::Run(config)),
+        Ok(Err(refusal)) => exit(report(rt, alloc, command, refusal)),
+        Err(error) => Err(error),
+    }
+}
+
+/// The configuration of the matched words, or why they are refused.
+fn read_config<'a>(
+    alloc: Global,
+    matches: &ArgMatches<'a>,
+    surroundings: Surroundings,
+) -> Result<Result<DaemonConfig<'a>, Refusal<'a>>, AllocError>
+    ensures valid { IfOk result (λ read. IfOk read (λ config. IsConfig config.config)) }
+    ensures names { IfOk result (λ read. IfOk read
+        (Configures (rows_of (found_of matches.now)))) }
+    ensures servers { IfOk result (λ read. IfOk read
+        (StartsInRows surroundings.processors (rows_of (found_of matches.now)))) }
+{
     let Some(servers) = servers_each(matches, surroundings.processors) else {
-        let word = matches.get_str(SERVERS);
-        return exit(report_invalid(rt, alloc, command, word, NO_SERVERS));
+        return Ok(Err(Refusal::of_value(matches, SERVERS, NO_SERVERS)));
     };
     if let Some(message) = excluded(matches, servers) {
-        return exit(report_conflict(rt, command, message));
+        return Ok(Err(Refusal::Conflict(message)));
     }
     if let Some(no) = faulty_status(alloc, matches)? {
-        let word = matches.get_str(STATUS);
-        return exit(report_invalid(rt, alloc, command, word, no.why()));
+        return Ok(Err(Refusal::of_value(matches, STATUS, no.why())));
     }
     let ports = match port_range(matches.get_str(PORTS), server_count(matches, servers)) {
         Ok(ports) => ports,
-        Err(NoPorts(why)) => {
-            let word = matches.get_str(PORTS);
-            return exit(report_invalid(rt, alloc, command, word, why));
-        }
+        Err(NoPorts(why)) => return Ok(Err(Refusal::of_value(matches, PORTS, why))),
     };
     match read_service(alloc, matches, ports, servers, surroundings.errors)? {
-        Some(service) => Ok(CommandLine::Run(service)),
-        None => exit(report_addresses(rt, alloc, command, matches)),
+        Some(service) => Ok(Ok(service)),
+        None => Ok(Err(Refusal::of_addresses(matches))),
     }
 }
 

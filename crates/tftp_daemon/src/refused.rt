@@ -293,33 +293,54 @@ fn is_in_root(file: &str, root: &str) -> bool
     Path::new(file).starts_with(root)
 }
 
-/// The first word of `--listen` that is no address and not `stdin`.
-fn faulty_address<'a>(matches: &ArgMatches<'a>) -> Option<&'a str> {
-    for word in listen_words(matches) {
-        if Listen::named(word).is_none() {
-            return Some(*word);
-        }
-    }
-    None
+/// Why matched words are refused.
+#[derive(Clone, Copy)]
+pub(crate) enum Refusal<'a> {
+    /// Options do not stand together, as this message says.
+    Conflict(&'static str),
+    /// This word is no value of its option, for this reason.
+    Value(Option<&'a str>, &'static str),
 }
 
-/// Reports the first address that is none, or else that two are the same.
-pub(crate) fn report_addresses<P: Print + Eprint>(
+impl<'a> Refusal<'a> {
+    /// The word of an option is no value of it, for this reason.
+    pub(crate) fn of_value(
+        matches: &ArgMatches<'a>,
+        option: &str,
+        why: &'static str,
+    ) -> Refusal<'a> {
+        Refusal::Value(matches.get_str(option), why)
+    }
+
+    /// The first word of `--listen` that is no address and not `stdin`, or else that two addresses are
+    /// the same.
+    pub(crate) fn of_addresses(matches: &ArgMatches<'a>) -> Refusal<'a> {
+        for word in listen_words(matches) {
+            if Listen::named(word).is_none() {
+                return Refusal::Value(Some(*word), NO_ADDRESS);
+            }
+        }
+        Refusal::Conflict(LISTEN_TWICE)
+    }
+}
+
+/// Reports why the words are refused.
+pub(crate) fn report<P: Print + Eprint>(
     rt: &P,
     alloc: Global,
     command: &mut Command<'_>,
-    matches: &ArgMatches<'_>,
+    refusal: Refusal<'_>,
 ) -> Result<u8, AllocError>
     ensures { IfOk result (λ status. status ≡ 2) }
 {
-    match faulty_address(matches) {
-        Some(word) => report_invalid(rt, alloc, command, Some(word), NO_ADDRESS),
-        None => report_conflict(rt, command, LISTEN_TWICE),
+    match refusal {
+        Refusal::Conflict(message) => report_conflict(rt, command, message),
+        Refusal::Value(word, why) => report_invalid(rt, alloc, command, word, why),
     }
 }
 
 /// Reports two options that are not used together.
-pub(crate) fn report_conflict<P: Print + Eprint>(
+fn report_conflict<P: Print + Eprint>(
     rt: &P,
     command: &mut Command<'_>,
     message: &str,
@@ -331,7 +352,7 @@ pub(crate) fn report_conflict<P: Print + Eprint>(
 }
 
 /// Reports that this word is no value of an option, and why.
-pub(crate) fn report_invalid<P: Print + Eprint>(
+fn report_invalid<P: Print + Eprint>(
     rt: &P,
     alloc: Global,
     command: &mut Command<'_>,

@@ -1,9 +1,9 @@
 -- The configuration of the matches, by their rows, which are not refused.
 use Rattle.tftp_daemon.proofs.Refusals.{configures, starts_for}
-use Rattle.tftp_daemon.proofs.command_line.read_matches.Goals as goal
+use Rattle.tftp_daemon.proofs.command_line.read_config.Goals as goal
 
 pub returns-in-Some-3-clause-names : goal.returns-in-Some-3-clause-names
-returns-in-Some-3-clause-names g c =
+returns-in-Some-3-clause-names c =
     configures c.args.matches.now c.in-Some-3.service c.in-Some.servers
     (rw (c.in-Some-3.is) at c.in_ok-service.ensures.names)
     (rw (c.in-Some-3.is) at c.in_ok-service.ensures.servers)
@@ -12,6 +12,6 @@ returns-in-Some-3-clause-names g c =
     (rw (c.in_default-2.is) at c.in_ok-no.ensures)
 
 pub returns-in-Some-3-clause-servers : goal.returns-in-Some-3-clause-servers
-returns-in-Some-3-clause-servers g c =
+returns-in-Some-3-clause-servers c =
     starts_for c.args.matches.now c.in-Some-3.service c.args.surroundings.processors c.in-Some.servers c.in-Some.ensures.number
     (rw (c.in-Some-3.is) at c.in_ok-service.ensures.servers)
