@@ -166,16 +166,71 @@ fn listen<'a>(alloc: Global) -> Arg<'a>
 fn limits<'a>(alloc: Global, texts: &'a Texts) -> Result<Vec<Arg<'a>>, AllocError>
     ensures { IfOk result (λ args. HaveRules limits args.items) }
 {
+    let max_file = any_number(
+        alloc,
+        "max-file",
+        texts.max_file.as_str(),
+        "Longest file that a write may announce by tsize, in bytes",
+    );
+    let backoff = flag(
+        alloc,
+        BACKOFF,
+        "Waits twice as long after each further timeout without progress, up to eight times (RFC 1123)",
+    );
+    let cap = up_to_64(alloc, "cap", "Transfers that are open at once");
+    let per_client = up_to_64(
+        alloc,
+        PER_CLIENT,
+        "Transfers of one address that are open at once; a further request is dropped",
+    );
+    let longest = up_to_32_bits(
+        alloc,
+        LONGEST,
+        "Longest age of a transfer in seconds; later datagrams are dropped until it times out",
+    );
+    let length_memory = any_number(
+        alloc,
+        LENGTH_MEMORY,
+        "12582912",
+        "Memory in bytes for the lengths of netascii files, which are measured once; 192 for a file",
+    );
     Ok(vec![in alloc;
         max_block(alloc, texts),
-        max_file(alloc, texts),
+        max_file,
         retries(alloc, texts),
-        backoff(alloc),
-        cap(alloc, texts),
-        per_client(alloc),
-        longest(alloc),
-        length_memory(alloc),
+        backoff,
+        cap.default_value(texts.cap.as_str()),
+        per_client,
+        longest,
+        length_memory,
     ]?)
+}
+
+/// An option with a number from 1 to 64.
+fn up_to_64<'a>(alloc: Global, name: &'a str, help: &'a str) -> Arg<'a>
+    ensures { HasRule (within name.now 1 64) result }
+{
+    number(alloc, name, "1..64", value_parser!(u8).range(1..=64), help)
+}
+
+/// An option with a number from 1 to 2^32 - 1.
+fn up_to_32_bits<'a>(alloc: Global, name: &'a str, help: &'a str) -> Arg<'a>
+    ensures { HasRule (within name.now 1 4294967295) result }
+{
+    number(
+        alloc,
+        name,
+        "1..4294967295",
+        value_parser!(u32).range(1..=4_294_967_295),
+        help,
+    )
+}
+
+/// An option with any number below 2^64, which has a default.
+fn any_number<'a>(alloc: Global, name: &'a str, default: &'a str, help: &'a str) -> Arg<'a>
+    ensures { HasRule (by_default default.now (any_number name.now)) result }
+{
+    number(alloc, name, "0..2^64-1", value_parser!(u64), help).default_value(default)
 }
 
 /// The argument for the largest block size (RFC 2348, "Blocksize Option Specification").
@@ -193,21 +248,6 @@ fn max_block<'a>(alloc: Global, texts: &'a Texts) -> Arg<'a>
     max_block.default_value(texts.max_block.as_str())
 }
 
-/// The argument for the longest file.
-fn max_file<'a>(alloc: Global, texts: &'a Texts) -> Arg<'a>
-    ensures { HasRule (by_default (decimal default_config.limits.max_file)
-        (any_number (codes "max-file"))) result }
-{
-    let max_file = number(
-        alloc,
-        "max-file",
-        "0..2^64-1",
-        value_parser!(u64),
-        "Longest file that a write may announce by tsize, in bytes",
-    );
-    max_file.default_value(texts.max_file.as_str())
-}
-
 /// The argument for the limit of retransmissions.
 fn retries<'a>(alloc: Global, texts: &'a Texts) -> Arg<'a>
     ensures { HasRule (by_default (decimal default_config.retries)
@@ -221,72 +261,6 @@ fn retries<'a>(alloc: Global, texts: &'a Texts) -> Arg<'a>
         "How often a datagram is sent again without progress",
     );
     retries.default_value(texts.retries.as_str())
-}
-
-/// The argument for the waits after timeouts (RFC 1123, section 4.2.3.2).
-fn backoff<'a>(alloc: Global) -> Arg<'a>
-    ensures { HasRule (flag_rule (codes "backoff")) result }
-{
-    flag(
-        alloc,
-        BACKOFF,
-        "Waits twice as long after each further timeout without progress, up to eight times (RFC 1123)",
-    )
-}
-
-/// The argument for the limit of open transfers.
-fn cap<'a>(alloc: Global, texts: &'a Texts) -> Arg<'a>
-    ensures { HasRule (by_default (decimal default_config.cap) (within (codes "cap") 1 64))
-        result }
-{
-    let cap = number(
-        alloc,
-        "cap",
-        "1..64",
-        value_parser!(u8).range(1..=64),
-        "Transfers that are open at once",
-    );
-    cap.default_value(texts.cap.as_str())
-}
-
-/// The argument for the limit of open transfers of one address.
-fn per_client<'a>(alloc: Global) -> Arg<'a>
-    ensures { HasRule (within (codes "per-client") 1 64) result }
-{
-    number(
-        alloc,
-        PER_CLIENT,
-        "1..64",
-        value_parser!(u8).range(1..=64),
-        "Transfers of one address that are open at once; a further request is dropped",
-    )
-}
-
-/// The argument for the age at which a transfer is closed.
-fn longest<'a>(alloc: Global) -> Arg<'a>
-    ensures { HasRule (within (codes "longest") 1 4294967295) result }
-{
-    number(
-        alloc,
-        LONGEST,
-        "1..4294967295",
-        value_parser!(u32).range(1..=4_294_967_295),
-        "Longest age of a transfer in seconds; later datagrams are dropped until it times out",
-    )
-}
-
-/// The argument for the memory that the lengths of netascii files take.
-fn length_memory<'a>(alloc: Global) -> Arg<'a>
-    ensures { HasRule (by_default (codes "12582912") (any_number (codes "length-memory"))) result }
-{
-    let length_memory = number(
-        alloc,
-        LENGTH_MEMORY,
-        "0..2^64-1",
-        value_parser!(u64),
-        "Memory in bytes for the lengths of netascii files, which are measured once; 192 for a file",
-    );
-    length_memory.default_value("12582912")
 }
 
 /// The arguments for writes, and for when the server ends.
@@ -305,6 +279,12 @@ fn writes_and_ending<'a>(alloc: Global) -> Result<Vec<Arg<'a>>, AllocError>
         "FOLDER",
         "Takes writes below this folder of ROOT alone, and makes its temporary files there",
     );
+    let transfers = up_to_32_bits(alloc, TRANSFERS, "Ends after so many closed transfers");
+    let rounds = up_to_32_bits(
+        alloc,
+        ROUNDS,
+        "Ends after so many waits, each of a second at most",
+    );
     let forever = flag(
         alloc,
         FOREVER,
@@ -320,41 +300,11 @@ fn writes_and_ending<'a>(alloc: Global) -> Result<Vec<Arg<'a>>, AllocError>
         overwrite,
         read_only,
         uploads,
-        transfers(alloc),
-        rounds(alloc),
+        transfers.default_value("1"),
+        rounds.default_value("1000000"),
         forever,
         drain,
     ]?)
-}
-
-/// The argument for the number of closed transfers.
-fn transfers<'a>(alloc: Global) -> Arg<'a>
-    ensures { HasRule (by_default (codes "1") (within (codes "transfers") 1 4294967295))
-        result }
-{
-    let transfers = number(
-        alloc,
-        TRANSFERS,
-        "1..4294967295",
-        value_parser!(u32).range(1..=4_294_967_295),
-        "Ends after so many closed transfers",
-    );
-    transfers.default_value("1")
-}
-
-/// The argument for the number of waits.
-fn rounds<'a>(alloc: Global) -> Arg<'a>
-    ensures { HasRule (by_default (codes "1000000") (within (codes "rounds") 1 4294967295))
-        result }
-{
-    let rounds = number(
-        alloc,
-        ROUNDS,
-        "1..4294967295",
-        value_parser!(u32).range(1..=4_294_967_295),
-        "Ends after so many waits, each of a second at most",
-    );
-    rounds.default_value("1000000")
 }
 
 /// The arguments for the number of servers, which of them this is, what is logged, and what is
@@ -362,6 +312,11 @@ fn rounds<'a>(alloc: Global) -> Arg<'a>
 fn servers_and_log<'a>(alloc: Global) -> Result<Vec<Arg<'a>>, AllocError>
     ensures { IfOk result (λ args. HaveRules servers_and_log args.items) }
 {
+    let server = up_to_64(
+        alloc,
+        SERVER,
+        "Internal: number of this server of several, passed by --servers; with --listen stdin",
+    );
     let log = flag(
         alloc,
         LOG,
@@ -378,7 +333,7 @@ fn servers_and_log<'a>(alloc: Global) -> Result<Vec<Arg<'a>>, AllocError>
         "FILE",
         "Writes what the server has counted to this file, once a second at most, for Prometheus and people",
     );
-    Ok(vec![in alloc; servers(alloc), server(alloc), log, log_time, status]?)
+    Ok(vec![in alloc; servers(alloc), server, log, log_time, status]?)
 }
 
 /// The argument for the number of servers.
@@ -392,17 +347,4 @@ fn servers<'a>(alloc: Global) -> Arg<'a>
         "Starts so many servers at one request port, for as many processors, or one for each; with --forever",
     );
     servers.default_value("1")
-}
-
-/// The argument for which of several servers this is.
-fn server<'a>(alloc: Global) -> Arg<'a>
-    ensures { HasRule (within (codes "server") 1 64) result }
-{
-    number(
-        alloc,
-        SERVER,
-        "1..64",
-        value_parser!(u8).range(1..=64),
-        "Internal: number of this server of several, passed by --servers; with --listen stdin",
-    )
 }
