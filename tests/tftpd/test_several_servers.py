@@ -161,6 +161,23 @@ def test_an_address_that_comes_later(scene) -> None:
     expect((process.returncode, printed, errors[-len(last):]), (2, "", last), "what is said of no address")
 
 
+def test_an_address_that_is_there_at_once(scene) -> None:
+    """It is not there when it is tried first, and is when the servers have started, before anything was waited for: it
+    is served as any other, and so is the one that was there."""
+    scene.make("a", b"ABC")
+    there, late = scene.beside("there"), f"127.77.77.77:{free_ports(1)}"
+    env = preloaded(scene, "absent_address.c", ABSENT=77, UNTIL=there, ONCE=1)
+    words = [".", "--listen", f"{scene.address}:0", "--listen", late, "--forever"]
+    process = scene.start("tftpd", words, env=env)
+    said = f"tftpd: {late}: address not available, tried again each second\n"
+    expect(next_line(process.stderr), said, "what is said of the address")
+    listening = sorted(next_line(process.stdout).split()[1] for _ in range(2))
+    expect(listening[1:], [late], "the endpoint that came at once")
+    wait_for_servers(process, 2)
+    for name, word in zip(("one", "two"), listening):
+        scene.gets(word, "a", name, 3)
+
+
 def test_servers_at_two_addresses(scene) -> None:
     """One command has a server at each, which answers from there, and one file ends both."""
     scene.make("a", b"ABC")
