@@ -5,7 +5,7 @@ ghost use Rattle.std.specs.Prelude.{IfOk, IfSome};
 ghost use Rattle.tftp_player.specs.Arriving.{IsPlayable};
 
 use crate::printed::{announce, append_bytes, has_returned, was_refused};
-use anyhow::Result;
+use anyhow::{Result, anyhow};
 use std::alloc::{AllocError, Global};
 use tftp_ends::Record;
 use tftp_file::{Path, path_of};
@@ -183,14 +183,23 @@ impl Played {
                 announce(rt, &words)?;
                 let answer = self.world.apply(event);
                 has_returned(rt)?;
-                if answer == Err(WorldFault::Memory) {
-                    was_refused(rt, &before, &self.seen()?)?;
-                    return self.does_again(rt, next);
+                match answer {
+                    Err(WorldFault::Memory) => {
+                        was_refused(rt, &before, &self.seen()?)?;
+                        self.does_again(rt, next)
+                    }
+                    answer => prints(rt, answer?),
                 }
-                prints(rt, answer?)
             }
             None => self.prints_file(rt),
         }
+    }
+
+    /// Prints the file.
+    fn prints_file(&self, rt: &HostRuntime) -> Result<()> {
+        let file = self.file()?;
+        println!(rt; "{file}")?;
+        Ok(())
     }
 
     /// Makes the same move again.
