@@ -18,7 +18,7 @@ use Rattle.tftp_c.specs.HeldServer.{CallersTransfer, StepsAt}
 use Rattle.tftp_c.proofs.ReplyLemmas.{steps_of, timed_out}
 use Rattle.tftp_c.proofs.StoredLemmas.{seen, stored_made}
 
-some_of : {T : Type 0} (o : Option T) (x : T) → o ≡ Some x → IsSome o
+pub some_of : {T : Type 0} (o : Option T) (x : T) → o ≡ Some x → IsSome o
 some_of {T = T} o x is = subst (λ (p : Option T). IsSome p) (sym is) refl
 
 module _ (tid : ℕ) {does : EndState → EndState → Type 0} (old new : Table) (h : StepsAt tid does old new) where

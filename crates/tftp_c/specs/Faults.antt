@@ -57,6 +57,14 @@ abbrev pub FailsWith : List ℕ → (TftpOptions → Type 0) → ℕ → Type 0
 FailsWith given fails returned =
     SizeRefused given returned ⊎ (HasSize given × fails (options_in given))
 
+-- an end that has opened does not fit its place: memory is lacking for the handle (3), or a buffer of
+-- this length has no room for the first datagram (12)
+abbrev pub FirstTooLong : EndState → ℕ → ℕ → Type 0
+FirstTooLong e room returned = (returned ≡ 12) × (room < length e.position.last_sent)
+
+abbrev pub HandleRefused : EndState → ℕ → ℕ → Type 0
+HandleRefused e room returned = (returned ≡ 3) ⊎ FirstTooLong e room returned
+
 -- ---- a client
 -- it does not get: its request is not allowed, or memory is lacking for one that is
 abbrev pub GetRefused : List ℕ → TftpOptions → OpenFault → Type 0
@@ -201,14 +209,19 @@ GetUnserved datagram whole next options room returned =
     ⊎ GetUnopened datagram whole next options room returned
     ⊎ ((returned ≡ 12) × GetHasNoReply datagram whole next options room)
 
--- a write request is not served: its end lacks only memory
-abbrev pub PutUnserved : List ℕ → TftpOptions → ℕ → ℕ → Type 0
-PutUnserved datagram options room returned =
+-- a write request has no end: an end that is answered lacks only memory
+abbrev pub PutUnopened : List ℕ → TftpOptions → ℕ → Type 0
+PutUnopened datagram options returned =
     ((returned ≡ 2) × (LimitsBlocks options → ⊥))
     ⊎ ((returned ≡ 2) × NoWrite datagram)
     ⊎ PutOptionsRefused datagram options returned
     ⊎ ((returned ≡ 3) × PutAnswered datagram options)
-    ⊎ ((returned ≡ 12) × PutHasNoReply datagram options room)
+
+-- a write request is not served: it has no end, or the buffer fails it
+abbrev pub PutUnserved : List ℕ → TftpOptions → ℕ → ℕ → Type 0
+PutUnserved datagram options room returned =
+    ((returned ≡ 12) × PutHasNoReply datagram options room)
+    ⊎ PutUnopened datagram options returned
 
 -- the end of a handle does not open for it
 abbrev pub ServeGetFault : List ℕ → ℕ → List ℕ → List ℕ → ℕ → ℕ → Type 0

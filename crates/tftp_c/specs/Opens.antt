@@ -4,6 +4,7 @@ use Rattle.std.specs.Prelude.{Some, None}
 use Rattle.tftp_wire.specs.declared.mode.Mode.{Mode}
 use Rattle.tftp_wire.specs.declared.mode.Mode.TheVariants.{Octet, Netascii}
 use Rattle.tftp_negotiate.specs.declared.asked.Asked.{Asked}
+use Rattle.tftp_ends.specs.declared.endpoint.Endpoint.{Endpoint}
 use Rattle.tftp_ends.specs.End.{EndState, record_of, seconds_of}
 use Rattle.tftp_ends.specs.Opening.{getting, putting}
 use Rattle.tftp_c.specs.declared.client.Client.{Client}
@@ -41,16 +42,21 @@ puts server name length options =
     putting (endpoint_of server) name (mode_of options) (asked_of options length) length
     options.max_file options.retries
 
--- the end is at its opening as `expected`, and sends its first datagram, which fits the buffer
+-- an end that opened sends its first datagram, which fits the buffer
+pub record FirstSent (e : EndState) (peer : Endpoint) (reply : List ℕ) (event : TftpEvent) : Type 0
+  where
+    pub sends : Sends (Some peer) e.position.last_sent reply event
+    pub fits : length e.position.last_sent ≤ length reply
+    pub progress : event.progress ≡ false
+    pub interval : event.interval ≡ seconds_of (record_of e).timeout
+    pub reports : Reports e event
+
+-- the end is at its opening as `expected`, and sends its first datagram
 pub record Opened (e expected : EndState) (to : TftpEndpoint) (request : List ℕ)
     (event : TftpEvent) : Type 0 where
   pub state : e ≡ expected
-  pub sends : Sends (Some (endpoint_of to)) e.position.last_sent request event
-  pub fits : length e.position.last_sent ≤ length request
   pub file : event.file_len ≡ 0
-  pub progress : event.progress ≡ false
-  pub interval : event.interval ≡ seconds_of (record_of e).timeout
-  pub reports : Reports e event
+  pub sent : FirstSent e (endpoint_of to) request event
 
 -- a handle holds such an end
 abbrev pub Opens : Option Client → EndState → TftpEndpoint → List ℕ → TftpEvent → Type 0

@@ -1,5 +1,5 @@
 -- How a server's end opens for C.
-use Rattle.std.specs.Prelude.{ℕ, ◌≡◌, ◌+◌, ◌-◌, ◌*◌, ◌<◌, ◌≤◌, ◌==◌, false, if◌then◌else◌, List}
+use Rattle.std.specs.Prelude.{ℕ, ◌≡◌, ◌+◌, ◌-◌, ◌*◌, ◌<◌, ◌≤◌, ◌==◌, if◌then◌else◌, List}
 use Rattle.std.specs.Prelude.{length, Option}
 use Rattle.std.specs.Prelude.{Some, None, Ok, max, min}
 use Rattle.tftp_wire.specs.Spelling.{Spells}
@@ -13,15 +13,15 @@ use Rattle.tftp_negotiate.specs.declared.known.Known.{Known}
 use Rattle.tftp_negotiate.specs.declared.limits.Limits.{Limits}
 use Rattle.tftp_negotiate.specs.declared.limits.TheConstants.{DEFAULT_BLOCK}
 use Rattle.tftp_file.specs.Memory.{memory_source}
-use Rattle.tftp_ends.specs.declared.endpoint.Endpoint.{Endpoint}
-use Rattle.tftp_ends.specs.End.{EndState, record_of, seconds_of}
+use Rattle.tftp_ends.specs.End.{EndState}
 use Rattle.tftp_ends.specs.Opening.{ServesRead, serving_write}
 use Rattle.tftp_c.specs.declared.client.Client.{Client}
 use Rattle.tftp_c.specs.declared.event.TftpEndpoint.{TftpEndpoint}
 use Rattle.tftp_c.specs.declared.event.TftpEvent.{TftpEvent}
 use Rattle.tftp_c.specs.declared.event.TftpOptions.{TftpOptions}
 use Rattle.tftp_c.specs.Answers.{answer_to}
-use Rattle.tftp_c.specs.Reports.{endpoint_of, Sends, Reports}
+use Rattle.tftp_c.specs.Opens.{FirstSent}
+use Rattle.tftp_c.specs.Reports.{endpoint_of}
 
 -- the limits of a server: the block size that C gives is the largest, and 0 is for any
 abbrev pub limits_of : TftpOptions → Limits
@@ -43,15 +43,6 @@ read_limits options room =
       max_block = min (limits_of options).max_block (max DEFAULT_BLOCK (room - HEADER));
       max_file = options.max_file;
     }
-
--- an end that opened sends its first datagram, which fits the buffer
-pub record FirstSent (e : EndState) (peer : Endpoint) (reply : List ℕ) (event : TftpEvent) : Type 0
-  where
-    pub sends : Sends (Some peer) e.position.last_sent reply event
-    pub fits : length e.position.last_sent ≤ length reply
-    pub progress : event.progress ≡ false
-    pub interval : event.interval ≡ seconds_of (record_of e).timeout
-    pub reports : Reports e event
 
 -- a read request has such an end: its options are answered, a DATA of the agreed size fits the buffer,
 -- and the `count` bytes that are sent come from `next`, of which `rest` is left

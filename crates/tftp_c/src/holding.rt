@@ -1,26 +1,28 @@
 //! How a server for C opens, and how a transfer opens in it: once its caller has found the file.
 
-ghost use Rattle.std.specs.Prelude.{◌≡◌, ◌≤◌, IfOk, IfErr, OnOk, length as list_length};
+ghost use Rattle.std.specs.Prelude.{◌≡◌, ◌⊎◌, ◌≤◌, IfOk, IfErr, OnOk, length as list_length};
 ghost use Rattle.tftp_ends.specs.Files.{AreFilesOf};
 ghost use Rattle.tftp_server.specs.Config.{IsConfig};
-ghost use Rattle.tftp_c.specs.Faults.{GetFails, PutFails, ReturnsHeld, StartRefused};
+ghost use Rattle.tftp_c.specs.Faults.{FirstTooLong, GetFails, PutFails, ReturnsHeld, StartRefused};
 ghost use Rattle.tftp_c.specs.HeldServer.{config_of, table_fault, OpensAt, OpensGet, OpensPut};
 ghost use Rattle.tftp_c.specs.HeldServer.{Starts};
 ghost use Rattle.tftp_c.specs.Elsewhere.{stated_in_files};
+ghost use Rattle.tftp_c.specs.Opens.{FirstSent};
 ghost use Rattle.tftp_c.specs.Options.{HasSize, options_in};
 ghost use Rattle.tftp_c.specs.Reports.{endpoint_of};
-ghost use Rattle.tftp_c.specs.ServerOpens.{FirstSent};
 ghost use Rattle.tftp_c.specs.Stated.{StatedBy};
 
 use crate::elsewhere::{Absent, Elsewhere};
 use crate::event::{self, TftpEndpoint, TftpEvent, TftpOptions};
 use crate::given;
 use crate::held_server::HeldServer;
-use crate::report::{endpoint, report_opening};
+use crate::opening::fits;
+use crate::report::{endpoint, opening_step};
 use crate::serving::{Served, limits, serve_get, serve_put};
 use crate::stated::stated_by;
+use crate::transfers::report_at;
 use std::alloc::Global;
-use tftp_ends::End;
+use tftp_ends::{Backoff, End, Outgoing};
 use tftp_file::Files;
 use tftp_server::{Config, Server, ServerFault};
 
@@ -67,11 +69,13 @@ pub(crate) fn table_fault(fault: ServerFault) -> u8
     }
 }
 
-/// In place of the files of an end, which the caller has.
-fn absent_files(end: &End, stated: Option<u64>) -> Files<Absent, Absent>
+/// In place of the files of an end, which the caller has, with the length that its first datagram
+/// states.
+fn absent_files(end: &End) -> Files<Absent, Absent>
     ensures files { AreFilesOf end.now.role.side result }
-    ensures stated { stated_in_files result ≡ stated }
+    ensures stated { StatedBy end.now.position.last_sent (stated_in_files result) }
 {
+    let stated = stated_by(end.bytes_of(Outgoing::LastSent));
     if end.record().side.is_sender() {
         Files::Source(Absent { stated })
     } else {
@@ -86,9 +90,7 @@ fn hold(
     from: &TftpEndpoint,
     request: &[u8],
     end: End,
-    stated: Option<u64>,
 ) -> u8
-    requires { StatedBy end.position.last_sent stated }
     ensures ok { result ≡ 0
         → OpensAt tid from.now request.now (λ e. e ≡ end) server.old server.new }
     ensures fault { (result ≡ 0 → ⊥) → ReturnsHeld tid from.now request.now server.old result }
@@ -97,7 +99,7 @@ fn hold(
     let Ok(admission) = server.admit(endpoint(from), request) else {
         return event::MEMORY;
     };
-    let files = absent_files(&end, stated);
+    let files = absent_files(&end);
     match server.hold(admission, tid, end, files) {
         Ok(()) => 0,
         Err(fault) => table_fault(fault),
@@ -110,32 +112,34 @@ fn open(
     tid: u16,
     from: &TftpEndpoint,
     request: &[u8],
-    served: Served,
+    end: End,
+    count: usize,
     reply: &mut [u8],
     event: &mut TftpEvent,
 ) -> u8
-    requires first { served.first.items ≡ served.end.position.last_sent }
-    requires fits { list_length served.end.position.last_sent ≤ list_length reply.old }
     ensures ok { result ≡ 0
-        → OpensAt tid from.now request.now (λ e. e ≡ served.end) server.old server.new }
-    ensures sent { result ≡ 0
-        → FirstSent served.end (endpoint_of from.now) reply.new event.new }
+        → OpensAt tid from.now request.now (λ e. e ≡ end) server.old server.new }
+    ensures sent { result ≡ 0 → FirstSent end (endpoint_of from.now) reply.new event.new }
     ensures fits { result ≡ 0 → event.new.send_len ≤ list_length reply.old }
-    ensures room { list_length reply.new ≡ list_length reply.old }
-    ensures file { result ≡ 0 → event.new.file_len ≡ served.count }
-    ensures fault { (result ≡ 0 → ⊥) → ReturnsHeld tid from.now request.now server.old result }
+    ensures file { result ≡ 0 → event.new.file_len ≡ count }
+    ensures fault { (result ≡ 0 → ⊥) → FirstTooLong end (list_length reply.old) result
+        ⊎ ReturnsHeld tid from.now request.now server.old result }
     ensures err { (result ≡ 0 → ⊥) → server.new ≡ server.old }
     ensures unmoved { (result ≡ 0 → ⊥) → (event.new ≡ event.old) × (reply.new ≡ reply.old) }
 {
-    let Served { end, count, first } = served;
-    let state = end.record();
-    let stated = stated_by(first.as_slice());
-    let fault = hold(server, tid, from, request, end, stated);
+    if !fits(&end, reply) {
+        return event::NO_ROOM;
+    }
+    let fault = hold(server, tid, from, request, end);
     if fault == 0 {
-        report_opening(
-            &state,
-            endpoint(from),
-            first.as_slice(),
+        let step = opening_step(endpoint(from));
+        let first = Outgoing::LastSent;
+        report_at(
+            server,
+            tid,
+            Backoff::Constant,
+            step,
+            first,
             reply,
             count,
             event,
@@ -167,7 +171,19 @@ pub(crate) fn get(
 {
     let room = reply.len();
     match serve_get(alloc, from, request, length, next, &served.options, room) {
-        Ok(opened) => open(&mut served.server, tid, from, request, opened, reply, event),
+        Ok(opened) => {
+            let Served { end, count } = opened;
+            open(
+                &mut served.server,
+                tid,
+                from,
+                request,
+                end,
+                count,
+                reply,
+                event,
+            )
+        }
         Err(fault) => fault,
     }
 }
@@ -191,8 +207,8 @@ pub(crate) fn put(
     ensures err { (result ≡ 0 → ⊥) → served.new ≡ served.old }
     ensures unmoved { (result ≡ 0 → ⊥) → (event.new ≡ event.old) × (reply.new ≡ reply.old) }
 {
-    match serve_put(alloc, from, request, &served.options, reply.len()) {
-        Ok(opened) => open(&mut served.server, tid, from, request, opened, reply, event),
+    match serve_put(alloc, from, request, &served.options) {
+        Ok(end) => open(&mut served.server, tid, from, request, end, 0, reply, event),
         Err(fault) => fault,
     }
 }

@@ -45,19 +45,14 @@ ghost use Rattle.tftp_wire.specs.declared.packet.Packet.{Packet};
 ghost use Rattle.tftp_wire.specs.declared.fault.PacketFault.{PacketFault};
 ghost use Rattle.tftp_file.specs.Netascii.{netascii_text};
 ghost use Rattle.tftp_wire.specs.Options.{option_bytes};
-ghost use Rattle.tftp_ends.specs.Opening.{MayGet, MayPut};
 ghost use Rattle.tftp_c.specs.Aborted.{AbortRefused, AbortsOpen, OnRecord};
 ghost use Rattle.tftp_c.specs.Built.{BuildsRequest};
 ghost use Rattle.tftp_c.specs.Handled.{HoldsClient, OnClient, OnEnd, Received, Sent, TimedOut};
 ghost use Rattle.tftp_c.specs.Informed.{InfoFault, Informs};
 ghost use Rattle.tftp_c.specs.Listed.{option_at, option_named, WritesOption};
-ghost use Rattle.tftp_c.specs.Faults.{GetFault, PutFault, ServeGetFault, ServePutFault};
-ghost use Rattle.tftp_c.specs.Opens.{asked_of, gets, mode_of, puts, Opens};
-ghost use Rattle.tftp_c.specs.Options.{HasSize, options_in};
-ghost use Rattle.tftp_c.specs.ServerOpens.{HoldsSuch, ServesGet, ServesPut};
 ghost use Rattle.tftp_c.specs.Shown.{Shows, shown_fault};
-ghost use Rattle.tftp_c.specs.Stated.{KnowsFirst, LearnsFrom, States, StatesNone};
-ghost use Rattle.tftp_c.specs.Waits.{backoff_of, Waits};
+ghost use Rattle.tftp_c.specs.Stated.{LearnsFrom, States, StatesNone};
+ghost use Rattle.tftp_c.specs.Waits.{Waits};
 
 use crate::error::write_error;
 use crate::event::{TftpEndpoint, TftpEvent, TftpInfo};
@@ -77,83 +72,6 @@ pub extern "C" fn tftp_decode(datagram: &[u8], packet: &mut TftpPacket) -> u8
         → (result ≡ kind_number e.kind) × (packet.new ≡ shown_fault e) }
 {
     decode(datagram, packet)
-}
-
-/// Opens a client that gets a file, by the bytes of its options, after closing what `end` held. The request to send is written
-/// to `request`. After a fault `end` is closed.
-#[unsafe(no_mangle)]
-pub extern "C" fn tftp_open_get(
-    alloc: Global,
-    end: &mut TftpEnd,
-    server: &TftpEndpoint,
-    name: &[u8],
-    options: &[u8],
-    request: &mut [u8],
-    event: &mut TftpEvent,
-) -> u8
-    ensures ok { result ≡ 0 → Opens end.new.slot.value
-        (gets server.now name.now (options_in options.now)) server.now request.new event.new }
-    ensures unstated { result ≡ 0
-        → HoldsClient end.new.slot.value (λ c. c.stated ≡ None) }
-    ensures backoff { result ≡ 0 → HoldsClient end.new.slot.value
-        (λ c. c.backoff ≡ backoff_of (options_in options.now)) }
-    ensures allowed { result ≡ 0 → HasSize options.now
-        × MayGet name.now (mode_of (options_in options.now))
-        (asked_of (options_in options.now) 0) }
-    ensures fits { result ≡ 0 → event.new.send_len ≤ list_length request.old }
-    ensures fault { (result ≡ 0 → ⊥)
-        → GetFault name.now options.now (list_length request.old) result }
-    ensures err { (result ≡ 0 → ⊥) → end.new.slot.value ≡ None }
-    ensures unmoved { (result ≡ 0 → ⊥)
-        → (event.new ≡ event.old) × (request.new ≡ request.old) }
-{
-    end.close(alloc);
-    match opening::get(alloc, server, name, options, request, event) {
-        Ok(opened) => {
-            end.put(opened);
-            0
-        }
-        Err(fault) => fault,
-    }
-}
-
-/// Opens a client that puts a file of `length` bytes, after closing what `end` held. The request to
-/// send is written to `request`. After a fault `end` is closed.
-#[unsafe(no_mangle)]
-pub extern "C" fn tftp_open_put(
-    alloc: Global,
-    end: &mut TftpEnd,
-    server: &TftpEndpoint,
-    name: &[u8],
-    length: u64,
-    options: &[u8],
-    request: &mut [u8],
-    event: &mut TftpEvent,
-) -> u8
-    ensures ok { result ≡ 0 → Opens end.new.slot.value
-        (puts server.now name.now length (options_in options.now)) server.now request.new event.new }
-    ensures unstated { result ≡ 0
-        → HoldsClient end.new.slot.value (λ c. c.stated ≡ None) }
-    ensures backoff { result ≡ 0 → HoldsClient end.new.slot.value
-        (λ c. c.backoff ≡ backoff_of (options_in options.now)) }
-    ensures allowed { result ≡ 0 → HasSize options.now
-        × MayPut name.now (mode_of (options_in options.now))
-        (asked_of (options_in options.now) length) length }
-    ensures fits { result ≡ 0 → event.new.send_len ≤ list_length request.old }
-    ensures fault { (result ≡ 0 → ⊥)
-        → PutFault name.now length options.now (list_length request.old) result }
-    ensures err { (result ≡ 0 → ⊥) → end.new.slot.value ≡ None }
-    ensures unmoved { (result ≡ 0 → ⊥)
-        → (event.new ≡ event.old) × (request.new ≡ request.old) }
-{
-    end.close(alloc);
-    match opening::put(alloc, server, name, length, options, request, event) {
-        Ok(opened) => {
-            end.put(opened);
-            0
-        }
-        Err(fault) => fault,
-    }
 }
 
 /// Handles a datagram at a receiver: the bytes of the file that it brings are written to `file`,
@@ -300,76 +218,6 @@ pub extern "C" fn tftp_close_end(alloc: Global, end: &mut TftpEnd)
     ensures { end.new.slot.value ≡ None }
 {
     end.close(alloc);
-}
-
-/// Opens a server's end that sends the file of a read request from `client`: `length` bytes, of which
-/// `next` are the first. After a fault `end` is closed.
-#[unsafe(no_mangle)]
-pub extern "C" fn tftp_open_serve_get(
-    alloc: Global,
-    end: &mut TftpEnd,
-    client: &TftpEndpoint,
-    request: &[u8],
-    length: u64,
-    next: &[u8],
-    options: &[u8],
-    reply: &mut [u8],
-    event: &mut TftpEvent,
-) -> u8
-    ensures ok { result ≡ 0 → HoldsSuch end.new.slot.value (λ e. ServesGet client.now request.now
-        length next.now (options_in options.now) e reply.new event.new) }
-    ensures stated { result ≡ 0 → HoldsClient end.new.slot.value KnowsFirst }
-    ensures backoff { result ≡ 0 → HoldsClient end.new.slot.value
-        (λ c. c.backoff ≡ backoff_of (options_in options.now)) }
-    ensures allowed { result ≡ 0 → HasSize options.now }
-    ensures fault { (result ≡ 0 → ⊥)
-        → ServeGetFault request.now length next.now options.now (list_length reply.old) result }
-    ensures fits { result ≡ 0 → event.new.send_len ≤ list_length reply.old }
-    ensures err { (result ≡ 0 → ⊥) → end.new.slot.value ≡ None }
-    ensures unmoved { (result ≡ 0 → ⊥) → (event.new ≡ event.old) × (reply.new ≡ reply.old) }
-{
-    end.close(alloc);
-    match serving::open_get(alloc, client, request, length, next, options, reply, event) {
-        Ok(opened) => {
-            end.put(opened);
-            0
-        }
-        Err(fault) => fault,
-    }
-}
-
-/// Opens a server's end that receives the file of a write request from `client`. After a fault `end`
-/// is closed.
-#[unsafe(no_mangle)]
-pub extern "C" fn tftp_open_serve_put(
-    alloc: Global,
-    end: &mut TftpEnd,
-    client: &TftpEndpoint,
-    request: &[u8],
-    options: &[u8],
-    reply: &mut [u8],
-    event: &mut TftpEvent,
-) -> u8
-    ensures ok { result ≡ 0 → HoldsSuch end.new.slot.value (λ e. ServesPut client.now request.now
-        (options_in options.now) e reply.new event.new) }
-    ensures stated { result ≡ 0 → HoldsClient end.new.slot.value KnowsFirst }
-    ensures backoff { result ≡ 0 → HoldsClient end.new.slot.value
-        (λ c. c.backoff ≡ backoff_of (options_in options.now)) }
-    ensures allowed { result ≡ 0 → HasSize options.now }
-    ensures fits { result ≡ 0 → event.new.send_len ≤ list_length reply.old }
-    ensures fault { (result ≡ 0 → ⊥)
-        → ServePutFault request.now options.now (list_length reply.old) result }
-    ensures err { (result ≡ 0 → ⊥) → end.new.slot.value ≡ None }
-    ensures unmoved { (result ≡ 0 → ⊥) → (event.new ≡ event.old) × (reply.new ≡ reply.old) }
-{
-    end.close(alloc);
-    match serving::open_put(alloc, client, request, options, reply, event) {
-        Ok(opened) => {
-            end.put(opened);
-            0
-        }
-        Err(fault) => fault,
-    }
 }
 
 /// Writes an ERROR, and returns its length, or 0.

@@ -1,21 +1,18 @@
 //! How a client opens for C.
 
-ghost use Rattle.std.specs.Prelude.{◌≡◌, ◌↔◌, ◌⊎◌, ◌≤◌, IfOk, IfErr, IsTrue, None, OnOk, OnErr};
-ghost use Rattle.std.specs.Prelude.{Some};
-ghost use Rattle.std.specs.Prelude.{false, length as list_length};
-ghost use Rattle.tftp_ends.specs.Opening.{MayGet, MayPut, getting, putting};
-ghost use Rattle.tftp_ends.specs.End.{record_of, seconds_of};
-ghost use Rattle.tftp_c.specs.Faults.{open_fault, GetFault, GetHasNoRoom, GetRefused, PutFault};
-ghost use Rattle.tftp_c.specs.Faults.{PutHasNoRoom, PutRefused, Returns};
-ghost use Rattle.tftp_c.specs.Opens.{asked_of, gets, mode_of, puts, Opened};
+ghost use Rattle.std.specs.Prelude.{◌≡◌, ◌↔◌, ◌≤◌, IsTrue, None, Some, length as list_length};
+ghost use Rattle.tftp_ends.specs.Opening.{MayGet, MayPut};
+ghost use Rattle.tftp_c.specs.Faults.{open_fault, GetFault, HandleRefused, PutFault};
+ghost use Rattle.tftp_c.specs.Handled.{HoldsClient};
+ghost use Rattle.tftp_c.specs.Opens.{asked_of, gets, mode_of, puts, FirstSent, Opens};
 ghost use Rattle.tftp_c.specs.Options.{HasSize, options_in};
 ghost use Rattle.tftp_c.specs.Waits.{backoff_of};
-ghost use Rattle.tftp_c.specs.Reports.{Reports, Sends};
 
 use crate::client::Client;
 use crate::event::{self, TftpEndpoint, TftpEvent, TftpOptions};
 use crate::given;
-use crate::report::{endpoint, report_opening, state_of};
+use crate::handle::TftpEnd;
+use crate::report::{endpoint, report_opening};
 use std::alloc::Global;
 use tftp_ends::{End, EndConfig, Endpoint, OpenFault, Outgoing};
 use tftp_negotiate::{Asked, Limits};
@@ -94,197 +91,131 @@ fn client_of(end: End, options: &TftpOptions) -> Client
     }
 }
 
-/// A client that gets, behind a pointer, before anything is reported.
-fn open_get(
+/// Whether the first datagram of an end fits the buffer.
+pub(crate) fn fits(end: &End, reply: &[u8]) -> bool
+    ensures { IsTrue result ↔ (list_length end.now.position.last_sent ≤ list_length reply.now) }
+{
+    end.bytes_of(Outgoing::LastSent).len() <= reply.len()
+}
+
+/// Puts a client that has opened into a handle that is closed, and only then reports its opening.
+pub(crate) fn open(
     alloc: Global,
+    handle: &mut TftpEnd,
+    client: Client,
     to: Endpoint,
-    name: &[u8],
-    options: &TftpOptions,
-) -> Result<Box<Client>, OpenFault>
-    ensures ok { IfOk result (λ c. c.value.end ≡ getting to name.now (mode_of options.now)
-        (asked_of options.now 0) options.now.max_file options.now.retries) }
-    ensures unstated { IfOk result (λ c. c.value.stated ≡ None) }
-    ensures backoff { IfOk result (λ c. c.value.backoff ≡ backoff_of options.now) }
-    ensures allowed { OnOk result
-        (MayGet name.now (mode_of options.now) (asked_of options.now 0)) }
-    ensures err { IfErr result (GetRefused name.now options.now) }
-{
-    let asked = asked(options, 0);
-    match End::open_get(alloc, to, name, mode(options), &asked, &config(options)) {
-        Ok(end) => match Box::new(alloc, client_of(end, options)) {
-            Ok(client) => Ok(client),
-            Err(_) => Err(OpenFault::Memory),
-        },
-        Err(fault) => Err(fault),
-    }
-}
-
-/// A client that puts a file of `length` bytes, behind a pointer, before anything is reported.
-fn open_put(
-    alloc: Global,
-    to: Endpoint,
-    name: &[u8],
-    length: u64,
-    options: &TftpOptions,
-) -> Result<Box<Client>, OpenFault>
-    ensures ok { IfOk result (λ c. c.value.end ≡ putting to name.now (mode_of options.now)
-        (asked_of options.now length) length options.now.max_file options.now.retries) }
-    ensures unstated { IfOk result (λ c. c.value.stated ≡ None) }
-    ensures backoff { IfOk result (λ c. c.value.backoff ≡ backoff_of options.now) }
-    ensures allowed { OnOk result
-        (MayPut name.now (mode_of options.now) (asked_of options.now length) length) }
-    ensures err { IfErr result (PutRefused name.now length options.now) }
-{
-    let asked = asked(options, length);
-    let config = config(options);
-    match End::open_put(alloc, to, name, mode(options), &asked, length, &config) {
-        Ok(end) => match Box::new(alloc, client_of(end, options)) {
-            Ok(client) => Ok(client),
-            Err(_) => Err(OpenFault::Memory),
-        },
-        Err(fault) => Err(fault),
-    }
-}
-
-/// Reports that a client has opened, whose request is for `to`.
-fn report_client(client: &Client, to: Endpoint, request: &mut [u8], event: &mut TftpEvent)
-    ensures sends { Sends (Some to) client.now.end.position.last_sent request.new event.new }
-    ensures fits { event.new.send_len ≤ list_length request.old }
-    ensures room { list_length request.new ≡ list_length request.old }
-    ensures file { event.new.file_len ≡ 0 }
-    ensures progress { event.new.progress ≡ false }
-    ensures interval { event.new.interval ≡ seconds_of (record_of client.now.end).timeout }
-    ensures reports { Reports client.now.end event.new }
-{
-    let state = state_of(&client.end);
-    let datagram = client.end.bytes_of(Outgoing::LastSent);
-    report_opening(&state, to, datagram, request, 0, event);
-}
-
-/// Whether the request of a client fits the buffer.
-fn fits(client: &Client, request: &[u8]) -> bool
-    ensures { IsTrue result
-        ↔ (list_length client.now.end.position.last_sent ≤ list_length request.now) }
-{
-    client.end.bytes_of(Outgoing::LastSent).len() <= request.len()
-}
-
-/// Opens a client that gets, with these options.
-fn get_with(
-    alloc: Global,
-    server: &TftpEndpoint,
-    name: &[u8],
-    options: &TftpOptions,
-    request: &mut [u8],
+    file_len: usize,
+    reply: &mut [u8],
     event: &mut TftpEvent,
-) -> Result<Box<Client>, u8>
-    ensures ok { IfOk result (λ c. Opened c.value.end (gets server.now name.now options.now)
-        server.now request.new event.new) }
-    ensures unstated { IfOk result (λ c. c.value.stated ≡ None) }
-    ensures backoff { IfOk result (λ c. c.value.backoff ≡ backoff_of options.now) }
-    ensures allowed { OnOk result
-        (MayGet name.now (mode_of options.now) (asked_of options.now 0)) }
-    ensures fits { OnOk result (event.new.send_len ≤ list_length request.old) }
-    ensures err { IfErr result (λ returned. Returns (GetRefused name.now options.now) returned
-        ⊎ GetHasNoRoom name.now options.now (list_length request.old) returned) }
-    ensures unmoved { OnErr result ((event.new ≡ event.old) × (request.new ≡ request.old)) }
+) -> u8
+    requires { handle.old.slot.value ≡ None }
+    ensures ok { result ≡ 0 → handle.new.slot.value ≡ Some client }
+    ensures sent { result ≡ 0 → FirstSent client.end to reply.new event.new }
+    ensures file { result ≡ 0 → event.new.file_len ≡ file_len }
+    ensures fits { result ≡ 0 → event.new.send_len ≤ list_length reply.old }
+    ensures fault { (result ≡ 0 → ⊥) → HandleRefused client.end (list_length reply.old) result }
+    ensures err { (result ≡ 0 → ⊥) → handle.new.slot.value ≡ None }
+    ensures unmoved { (result ≡ 0 → ⊥) → (event.new ≡ event.old) × (reply.new ≡ reply.old) }
 {
-    let to = endpoint(server);
-    match open_get(alloc, to, name, options) {
+    if !fits(&client.end, reply) {
+        return event::NO_ROOM;
+    }
+    match Box::new(alloc, client) {
         Ok(client) => {
-            if !fits(&client, request) {
-                return Err(event::NO_ROOM);
-            }
-            report_client(&client, to, request, event);
-            Ok(client)
+            report_opening(&client.end, to, reply, file_len, event);
+            handle.put(client);
+            0
         }
-        Err(fault) => Err(open_fault(fault)),
+        Err(_) => event::MEMORY,
     }
 }
 
-/// Opens a client that puts a file of `length` bytes, with these options.
-fn put_with(
+/// Opens a client that gets a file, by the bytes of its options, after closing what `end` held. The request to send is written
+/// to `request`. After a fault `end` is closed.
+#[unsafe(no_mangle)]
+pub extern "C" fn tftp_open_get(
     alloc: Global,
-    server: &TftpEndpoint,
-    name: &[u8],
-    length: u64,
-    options: &TftpOptions,
-    request: &mut [u8],
-    event: &mut TftpEvent,
-) -> Result<Box<Client>, u8>
-    ensures ok { IfOk result (λ c. Opened c.value.end (puts server.now name.now length options.now)
-        server.now request.new event.new) }
-    ensures unstated { IfOk result (λ c. c.value.stated ≡ None) }
-    ensures backoff { IfOk result (λ c. c.value.backoff ≡ backoff_of options.now) }
-    ensures allowed { OnOk result
-        (MayPut name.now (mode_of options.now) (asked_of options.now length) length) }
-    ensures fits { OnOk result (event.new.send_len ≤ list_length request.old) }
-    ensures err { IfErr result (λ returned. Returns (PutRefused name.now length options.now) returned
-        ⊎ PutHasNoRoom name.now length options.now (list_length request.old) returned) }
-    ensures unmoved { OnErr result ((event.new ≡ event.old) × (request.new ≡ request.old)) }
-{
-    let to = endpoint(server);
-    match open_put(alloc, to, name, length, options) {
-        Ok(client) => {
-            if !fits(&client, request) {
-                return Err(event::NO_ROOM);
-            }
-            report_client(&client, to, request, event);
-            Ok(client)
-        }
-        Err(fault) => Err(open_fault(fault)),
-    }
-}
-
-/// Opens a client that gets.
-pub(crate) fn get(
-    alloc: Global,
+    end: &mut TftpEnd,
     server: &TftpEndpoint,
     name: &[u8],
     options: &[u8],
     request: &mut [u8],
     event: &mut TftpEvent,
-) -> Result<Box<Client>, u8>
-    ensures ok { IfOk result (λ c. Opened c.value.end (gets server.now name.now (options_in options.now))
-        server.now request.new event.new) }
-    ensures unstated { IfOk result (λ c. c.value.stated ≡ None) }
-    ensures backoff { IfOk result (λ c. c.value.backoff ≡ backoff_of (options_in options.now)) }
-    ensures allowed { OnOk result (HasSize options.now
+) -> u8
+    ensures ok { result ≡ 0 → Opens end.new.slot.value
+        (gets server.now name.now (options_in options.now)) server.now request.new event.new }
+    ensures unstated { result ≡ 0
+        → HoldsClient end.new.slot.value (λ c. c.stated ≡ None) }
+    ensures backoff { result ≡ 0 → HoldsClient end.new.slot.value
+        (λ c. c.backoff ≡ backoff_of (options_in options.now)) }
+    ensures allowed { result ≡ 0 → HasSize options.now
         × MayGet name.now (mode_of (options_in options.now))
-        (asked_of (options_in options.now) 0)) }
-    ensures fits { OnOk result (event.new.send_len ≤ list_length request.old) }
-    ensures err { IfErr result (GetFault name.now options.now (list_length request.old)) }
-    ensures unmoved { OnErr result ((event.new ≡ event.old) × (request.new ≡ request.old)) }
+        (asked_of (options_in options.now) 0) }
+    ensures fits { result ≡ 0 → event.new.send_len ≤ list_length request.old }
+    ensures fault { (result ≡ 0 → ⊥)
+        → GetFault name.now options.now (list_length request.old) result }
+    ensures err { (result ≡ 0 → ⊥) → end.new.slot.value ≡ None }
+    ensures unmoved { (result ≡ 0 → ⊥)
+        → (event.new ≡ event.old) × (request.new ≡ request.old) }
 {
-    match given::options(options) {
-        Ok(options) => get_with(alloc, server, name, &options, request, event),
-        Err(fault) => Err(fault),
+    end.close(alloc);
+    let options = match given::options(options) {
+        Ok(options) => options,
+        Err(fault) => return fault,
+    };
+    let to = endpoint(server);
+    let asked = asked(&options, 0);
+    match End::open_get(alloc, to, name, mode(&options), &asked, &config(&options)) {
+        Ok(opened) => {
+            let client = client_of(opened, &options);
+            open(alloc, end, client, to, 0, request, event)
+        }
+        Err(fault) => open_fault(fault),
     }
 }
 
-/// Opens a client that puts a file of `length` bytes.
-pub(crate) fn put(
+/// Opens a client that puts a file of `length` bytes, after closing what `end` held. The request to
+/// send is written to `request`. After a fault `end` is closed.
+#[unsafe(no_mangle)]
+pub extern "C" fn tftp_open_put(
     alloc: Global,
+    end: &mut TftpEnd,
     server: &TftpEndpoint,
     name: &[u8],
     length: u64,
     options: &[u8],
     request: &mut [u8],
     event: &mut TftpEvent,
-) -> Result<Box<Client>, u8>
-    ensures ok { IfOk result (λ c. Opened c.value.end (puts server.now name.now length (options_in options.now))
-        server.now request.new event.new) }
-    ensures unstated { IfOk result (λ c. c.value.stated ≡ None) }
-    ensures backoff { IfOk result (λ c. c.value.backoff ≡ backoff_of (options_in options.now)) }
-    ensures allowed { OnOk result (HasSize options.now
+) -> u8
+    ensures ok { result ≡ 0 → Opens end.new.slot.value
+        (puts server.now name.now length (options_in options.now)) server.now request.new event.new }
+    ensures unstated { result ≡ 0
+        → HoldsClient end.new.slot.value (λ c. c.stated ≡ None) }
+    ensures backoff { result ≡ 0 → HoldsClient end.new.slot.value
+        (λ c. c.backoff ≡ backoff_of (options_in options.now)) }
+    ensures allowed { result ≡ 0 → HasSize options.now
         × MayPut name.now (mode_of (options_in options.now))
-        (asked_of (options_in options.now) length) length) }
-    ensures fits { OnOk result (event.new.send_len ≤ list_length request.old) }
-    ensures err { IfErr result (PutFault name.now length options.now (list_length request.old)) }
-    ensures unmoved { OnErr result ((event.new ≡ event.old) × (request.new ≡ request.old)) }
+        (asked_of (options_in options.now) length) length }
+    ensures fits { result ≡ 0 → event.new.send_len ≤ list_length request.old }
+    ensures fault { (result ≡ 0 → ⊥)
+        → PutFault name.now length options.now (list_length request.old) result }
+    ensures err { (result ≡ 0 → ⊥) → end.new.slot.value ≡ None }
+    ensures unmoved { (result ≡ 0 → ⊥)
+        → (event.new ≡ event.old) × (request.new ≡ request.old) }
 {
-    match given::options(options) {
-        Ok(options) => put_with(alloc, server, name, length, &options, request, event),
-        Err(fault) => Err(fault),
+    end.close(alloc);
+    let options = match given::options(options) {
+        Ok(options) => options,
+        Err(fault) => return fault,
+    };
+    let to = endpoint(server);
+    let asked = asked(&options, length);
+    let config = config(&options);
+    match End::open_put(alloc, to, name, mode(&options), &asked, length, &config) {
+        Ok(opened) => {
+            let client = client_of(opened, &options);
+            open(alloc, end, client, to, 0, request, event)
+        }
+        Err(fault) => open_fault(fault),
     }
 }

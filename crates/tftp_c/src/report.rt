@@ -1,6 +1,8 @@
 //! What the calls report to C.
 
-ghost use Rattle.std.specs.Prelude.{◌≡◌, ◌≤◌, ◌<◌, true, false, Some, length, take};
+ghost use Rattle.std.specs.Prelude.{◌≡◌, ◌≤◌, ◌<◌, true, false, length, take};
+ghost use Rattle.tftp_c.specs.Opens.{FirstSent};
+ghost use Rattle.tftp_ends.specs.Opening.{opening_step};
 ghost use Rattle.tftp_c.specs.Reports.{endpoint_of, outcome_number, peer_code};
 ghost use Rattle.tftp_c.specs.Reports.{Reports, ReportsRecord, Sends};
 ghost use Rattle.tftp_ends.specs.Backoff.{timeouts_of, wait_of};
@@ -45,7 +47,6 @@ pub(crate) fn write(datagram: &[u8], reply: &mut [u8]) -> Written
     ensures none { length reply.new < length datagram.now → result.len ≡ 0 }
     ensures lost { length reply.new < length datagram.now → result.is_lost ≡ true }
     ensures fits { result.len ≤ length reply.old }
-    ensures room { length reply.new ≡ length reply.old }
 {
     let len = datagram.len();
     if len > reply.len() {
@@ -93,7 +94,6 @@ pub(crate) fn report_record(
 )
     ensures sends { Sends step.to datagram.now reply.new event.new }
     ensures fits { event.new.send_len ≤ length reply.old }
-    ensures room { length reply.new ≡ length reply.old }
     ensures file { event.new.file_len ≡ file_len }
     ensures progress { event.new.progress ≡ step.progress }
     ensures interval { event.new.interval ≡ interval }
@@ -131,7 +131,6 @@ pub(crate) fn report_apart(
 )
     ensures sends { Sends step.to datagram.now reply.new event.new }
     ensures fits { event.new.send_len ≤ length reply.old }
-    ensures room { length reply.new ≡ length reply.old }
     ensures file { event.new.file_len ≡ file_len }
     ensures progress { event.new.progress ≡ step.progress }
     ensures interval { event.new.interval ≡ interval }
@@ -168,7 +167,6 @@ pub(crate) fn report(
 )
     ensures sends { Sends step.to (lent outgoing end.now) reply.new event.new }
     ensures fits { event.new.send_len ≤ length reply.old }
-    ensures room { length reply.new ≡ length reply.old }
     ensures file { event.new.file_len ≡ file_len }
     ensures progress { event.new.progress ≡ step.progress }
     ensures waits { Waits backoff end.now event.new }
@@ -180,28 +178,31 @@ pub(crate) fn report(
     report_apart(&state, wait, step, datagram, reply, file_len, event);
 }
 
-/// Reports an opening, and copies its first datagram, which is for `to`.
+/// The step of an opening, whose first datagram is for `to`.
+pub(crate) fn opening_step(to: Endpoint) -> Step
+    ensures { result ≡ opening_step to }
+{
+    Step {
+        to: Some(to),
+        progress: false,
+        closed: None,
+    }
+}
+
+/// Reports an opening, and copies its first datagram, which fits the buffer.
 pub(crate) fn report_opening(
-    state: &Record,
+    end: &End,
     to: Endpoint,
-    datagram: &[u8],
     reply: &mut [u8],
     file_len: usize,
     event: &mut TftpEvent,
 )
-    ensures sends { Sends (Some to) datagram.now reply.new event.new }
+    requires { length end.now.position.last_sent ≤ length reply.old }
+    ensures sent { FirstSent end.now to reply.new event.new }
     ensures fits { event.new.send_len ≤ length reply.old }
-    ensures room { length reply.new ≡ length reply.old }
     ensures file { event.new.file_len ≡ file_len }
-    ensures progress { event.new.progress ≡ false }
-    ensures interval { event.new.interval ≡ seconds_of state.now.timeout }
-    ensures reports { ReportsRecord state.now event.new }
 {
-    let step = Step {
-        to: Some(to),
-        progress: false,
-        closed: None,
-    };
-    let wait = u16::from(state.interval());
-    report_apart(state, wait, step, datagram, reply, file_len, event);
+    let step = opening_step(to);
+    let first = Outgoing::LastSent;
+    report(end, Backoff::Constant, step, first, reply, file_len, event);
 }

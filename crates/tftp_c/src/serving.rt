@@ -1,7 +1,7 @@
 //! How a server's end opens for C: by a request that the caller has read, and looked up.
 
-ghost use Rattle.std.specs.Prelude.{◌≡◌, ◌-◌, ◌*◌, ◌<◌, ◌≤◌, List, ℕ, Some, None, length};
-ghost use Rattle.std.specs.Prelude.{IfOk, IfErr, IfSome, OnOk, OnErr, length as list_length, max};
+ghost use Rattle.std.specs.Prelude.{◌≡◌, ◌-◌, ◌*◌, ◌<◌, ◌≤◌, List, ℕ, None, length};
+ghost use Rattle.std.specs.Prelude.{IfOk, IfErr, IfSome, OnOk, length as list_length, max};
 ghost use Rattle.std.specs.Prelude.{min};
 ghost use Rattle.tftp_negotiate.specs.Ranges.{IsBlockSize};
 ghost use Rattle.tftp_wire.specs.Borrowed.{owned_request};
@@ -10,26 +10,26 @@ ghost use Rattle.tftp_wire.specs.declared.packet.Packet.TheVariants.{Read, Write
 ghost use Rattle.tftp_file.specs.Memory.{memory_source};
 ghost use Rattle.tftp_negotiate.specs.Agreed.{size};
 ghost use Rattle.tftp_ends.specs.Opening.{ServesRead};
-ghost use Rattle.tftp_c.specs.Faults.{GetUnserved, NoRead, NoWrite, PutUnserved, SendRefused};
+ghost use Rattle.tftp_c.specs.Faults.{GetUnserved, NoRead, NoWrite, PutUnopened, SendRefused};
 ghost use Rattle.tftp_c.specs.Faults.{ServeGetFault, ServePutFault};
 ghost use Rattle.tftp_c.specs.Options.{HasSize, options_in};
 ghost use Rattle.tftp_c.specs.Waits.{backoff_of};
-ghost use Rattle.tftp_c.specs.Reports.{endpoint_of};
 ghost use Rattle.tftp_c.specs.ServerOpens.{limits_of, read_limits, AnswersGet, AnswersPut};
-ghost use Rattle.tftp_c.specs.ServerOpens.{FirstSent};
-ghost use Rattle.tftp_c.specs.ServerOpens.{LimitsBlocks, ServesGet, ServesPut};
+ghost use Rattle.tftp_c.specs.ServerOpens.{HoldsSuch, LimitsBlocks, ServesGet, ServesPut};
+ghost use Rattle.tftp_c.specs.Handled.{HoldsClient};
 ghost use Rattle.tftp_c.specs.Stated.{KnowsFirst};
 
 use crate::answering::answer;
 use crate::client::Client;
 use crate::event::{self, TftpEndpoint, TftpEvent, TftpOptions};
 use crate::given;
-use crate::opening::open_fault;
-use crate::report::{endpoint, report_opening};
+use crate::handle::TftpEnd;
+use crate::opening::{open, open_fault};
+use crate::report::endpoint;
 use crate::slice_source::SliceSource;
 use crate::stated::stated_by;
 use std::alloc::Global;
-use tftp_ends::{Backoff, End, OpenFault, ReadService};
+use tftp_ends::{End, OpenFault, Outgoing, ReadService};
 use tftp_negotiate::{Agreed, DEFAULT_BLOCK, Kind, Limits, is_block_size};
 use tftp_wire::{HEADER, MAX_BLOCK, PacketRef, RequestRef, decode_ref};
 
@@ -39,8 +39,6 @@ pub(crate) struct Served {
     pub(crate) end: End,
     /// How many bytes of the file it has taken.
     pub(crate) count: usize,
-    /// Its first datagram.
-    pub(crate) first: Vec<u8>,
 }
 
 /// The limits of a server: the largest block size, and the longest file.
@@ -146,7 +144,6 @@ fn serve(
         × ServesRead memory_source agreed.now read.peer read.mode read.length read.retries next.now
         rest s.end
         × (s.count ≡ length next.now - length rest)) }
-    ensures first { IfOk result (λ s. s.first.items ≡ s.end.position.last_sent) }
     ensures fits { OnOk result (read.length < 65535 * size agreed.now) }
     ensures err { IfErr result (SendRefused agreed.now read.length next.now) }
 {
@@ -155,27 +152,27 @@ fn serve(
     match End::serve_source(alloc, &mut source, read, agreed, &mut first) {
         Ok((end, _)) => {
             let count = source.taken_of(next);
-            Ok(Served { end, count, first })
+            Ok(Served { end, count })
         }
         Err(fault) => Err(fault),
     }
 }
 
-/// The end, if its first datagram fits a buffer of this length.
-fn fitting(served: Served, room: usize) -> Result<Served, u8>
-    requires { served.first.items ≡ served.end.position.last_sent }
-    ensures same { IfOk result (λ s. s ≡ served) }
-    ensures fits { OnOk result (list_length served.end.position.last_sent ≤ room) }
-    ensures err { IfErr result (λ returned. (returned ≡ 12)
-        × (room < list_length served.end.position.last_sent)) }
+/// A client that knows the length which the first datagram of its end states.
+fn client_of(end: End, options: &TftpOptions) -> Client
+    ensures end { result.end ≡ end }
+    ensures stated { KnowsFirst result }
+    ensures backoff { result.backoff ≡ backoff_of options.now }
 {
-    if served.first.len() > room {
-        return Err(event::NO_ROOM);
+    let stated = stated_by(end.bytes_of(Outgoing::LastSent));
+    Client {
+        end,
+        stated,
+        backoff: options.backoff(),
     }
-    Ok(served)
 }
 
-/// An end that sends the file of a read request. A datagram that it sends has this room.
+/// An end that sends the file of a read request. A block that it sends has this room.
 pub(crate) fn serve_get(
     alloc: Global,
     client: &TftpEndpoint,
@@ -187,8 +184,6 @@ pub(crate) fn serve_get(
 ) -> Result<Served, u8>
     ensures ok { IfOk result (λ s. AnswersGet client.now request.now length next.now options.now
         room s.end s.count) }
-    ensures first { IfOk result (λ s. s.first.items ≡ s.end.position.last_sent) }
-    ensures fits { IfOk result (λ s. list_length s.end.position.last_sent ≤ room) }
     ensures err { IfErr result (GetUnserved request.now length next.now options.now room) }
 {
     let Some(limits) = read_limits(options, room) else {
@@ -209,7 +204,7 @@ pub(crate) fn serve_get(
                         retries: options.retries,
                     };
                     match serve(alloc, read, &agreed, next) {
-                        Ok(served) => fitting(served, room),
+                        Ok(served) => Ok(served),
                         Err(fault) => Err(open_fault(fault)),
                     }
                 }
@@ -220,19 +215,15 @@ pub(crate) fn serve_get(
     }
 }
 
-/// An end that receives the file of a write request. A datagram that it sends has this room.
+/// An end that receives the file of a write request.
 pub(crate) fn serve_put(
     alloc: Global,
     client: &TftpEndpoint,
     request: &[u8],
     options: &TftpOptions,
-    room: usize,
-) -> Result<Served, u8>
-    ensures ok { IfOk result (λ s. AnswersPut client.now request.now options.now s.end) }
-    ensures first { IfOk result (λ s. s.first.items ≡ s.end.position.last_sent) }
-    ensures fits { IfOk result (λ s. list_length s.end.position.last_sent ≤ room) }
-    ensures none { IfOk result (λ s. s.count ≡ 0) }
-    ensures err { IfErr result (PutUnserved request.now options.now room) }
+) -> Result<End, u8>
+    ensures ok { IfOk result (AnswersPut client.now request.now options.now) }
+    ensures err { IfErr result (PutUnopened request.now options.now) }
 {
     let Some(limits) = valid_limits(options) else {
         return Err(event::BAD_REQUEST);
@@ -252,14 +243,7 @@ pub(crate) fn serve_put(
                         options.retries,
                         &mut first,
                     ) {
-                        Ok((end, _)) => fitting(
-                            Served {
-                                end,
-                                count: 0,
-                                first,
-                            },
-                            room,
-                        ),
+                        Ok((end, _)) => Ok(end),
                         Err(_) => Err(event::MEMORY),
                     }
                 }
@@ -270,153 +254,80 @@ pub(crate) fn serve_put(
     }
 }
 
-/// Puts a server's end behind a pointer, and only then reports its opening.
-fn boxed(
+/// Opens a server's end that sends the file of a read request from `client`: `length` bytes, of which
+/// `next` are the first. After a fault `end` is closed.
+#[unsafe(no_mangle)]
+pub extern "C" fn tftp_open_serve_get(
     alloc: Global,
-    served: Served,
+    end: &mut TftpEnd,
     client: &TftpEndpoint,
-    backoff: Backoff,
+    request: &[u8],
+    length: u64,
+    next: &[u8],
+    options: &[u8],
     reply: &mut [u8],
     event: &mut TftpEvent,
-) -> Option<Box<Client>>
-    requires first { served.first.items ≡ served.end.position.last_sent }
-    requires fits { list_length served.end.position.last_sent ≤ list_length reply.old }
-    ensures end { IfSome result (λ c. c.value.end ≡ served.end) }
-    ensures stated { IfSome result (λ c. KnowsFirst c.value) }
-    ensures backoff { IfSome result (λ c. c.value.backoff ≡ backoff) }
-    ensures sent { IfSome result (λ c. FirstSent served.end (endpoint_of client.now) reply.new
-        event.new) }
-    ensures fits { IfSome result (λ c. event.new.send_len ≤ list_length reply.old) }
-    ensures room { list_length reply.new ≡ list_length reply.old }
-    ensures file { IfSome result (λ c. event.new.file_len ≡ served.count) }
-    ensures unmoved { result ≡ None → (event.new ≡ event.old) × (reply.new ≡ reply.old) }
+) -> u8
+    ensures ok { result ≡ 0 → HoldsSuch end.new.slot.value (λ e. ServesGet client.now request.now
+        length next.now (options_in options.now) e reply.new event.new) }
+    ensures stated { result ≡ 0 → HoldsClient end.new.slot.value KnowsFirst }
+    ensures backoff { result ≡ 0 → HoldsClient end.new.slot.value
+        (λ c. c.backoff ≡ backoff_of (options_in options.now)) }
+    ensures allowed { result ≡ 0 → HasSize options.now }
+    ensures fault { (result ≡ 0 → ⊥)
+        → ServeGetFault request.now length next.now options.now (list_length reply.old) result }
+    ensures fits { result ≡ 0 → event.new.send_len ≤ list_length reply.old }
+    ensures err { (result ≡ 0 → ⊥) → end.new.slot.value ≡ None }
+    ensures unmoved { (result ≡ 0 → ⊥) → (event.new ≡ event.old) × (reply.new ≡ reply.old) }
 {
-    let Served { end, count, first } = served;
-    let state = end.record();
-    let stated = stated_by(first.as_slice());
-    let opened = Client {
-        end,
-        stated,
-        backoff,
+    end.close(alloc);
+    let options = match given::options(options) {
+        Ok(options) => options,
+        Err(fault) => return fault,
     };
-    match Box::new(alloc, opened) {
-        Ok(opened) => {
-            report_opening(
-                &state,
-                endpoint(client),
-                first.as_slice(),
-                reply,
-                count,
-                event,
-            );
-            Some(opened)
+    match serve_get(alloc, client, request, length, next, &options, reply.len()) {
+        Ok(Served { end: opened, count }) => {
+            let served = client_of(opened, &options);
+            open(alloc, end, served, endpoint(client), count, reply, event)
         }
-        Err(_) => None,
+        Err(fault) => fault,
     }
 }
 
-/// Opens an end that sends the file of a read request, with these options.
-fn get_with(
+/// Opens a server's end that receives the file of a write request from `client`. After a fault `end`
+/// is closed.
+#[unsafe(no_mangle)]
+pub extern "C" fn tftp_open_serve_put(
     alloc: Global,
-    client: &TftpEndpoint,
-    request: &[u8],
-    length: u64,
-    next: &[u8],
-    options: &TftpOptions,
-    reply: &mut [u8],
-    event: &mut TftpEvent,
-) -> Result<Box<Client>, u8>
-    ensures ok { IfOk result (λ c. ServesGet client.now request.now length next.now options.now
-        c.value.end reply.new event.new) }
-    ensures stated { IfOk result (λ c. KnowsFirst c.value) }
-    ensures backoff { IfOk result (λ c. c.value.backoff ≡ backoff_of options.now) }
-    ensures fits { OnOk result (event.new.send_len ≤ list_length reply.old) }
-    ensures err { IfErr result (GetUnserved request.now length next.now options.now
-        (list_length reply.old)) }
-    ensures unmoved { OnErr result ((event.new ≡ event.old) × (reply.new ≡ reply.old)) }
-{
-    match serve_get(alloc, client, request, length, next, options, reply.len()) {
-        Ok(served) => match boxed(alloc, served, client, options.backoff(), reply, event) {
-            Some(opened) => Ok(opened),
-            None => Err(event::MEMORY),
-        },
-        Err(fault) => Err(fault),
-    }
-}
-
-/// Opens an end that receives the file of a write request, with these options.
-fn put_with(
-    alloc: Global,
-    client: &TftpEndpoint,
-    request: &[u8],
-    options: &TftpOptions,
-    reply: &mut [u8],
-    event: &mut TftpEvent,
-) -> Result<Box<Client>, u8>
-    ensures ok { IfOk result (λ c. ServesPut client.now request.now options.now c.value.end
-        reply.new event.new) }
-    ensures stated { IfOk result (λ c. KnowsFirst c.value) }
-    ensures backoff { IfOk result (λ c. c.value.backoff ≡ backoff_of options.now) }
-    ensures fits { OnOk result (event.new.send_len ≤ list_length reply.old) }
-    ensures err { IfErr result (PutUnserved request.now options.now (list_length reply.old)) }
-    ensures unmoved { OnErr result ((event.new ≡ event.old) × (reply.new ≡ reply.old)) }
-{
-    match serve_put(alloc, client, request, options, reply.len()) {
-        Ok(served) => match boxed(alloc, served, client, options.backoff(), reply, event) {
-            Some(opened) => Ok(opened),
-            None => Err(event::MEMORY),
-        },
-        Err(fault) => Err(fault),
-    }
-}
-
-/// Opens an end that sends the file of a read request.
-pub(crate) fn open_get(
-    alloc: Global,
-    client: &TftpEndpoint,
-    request: &[u8],
-    length: u64,
-    next: &[u8],
-    options: &[u8],
-    reply: &mut [u8],
-    event: &mut TftpEvent,
-) -> Result<Box<Client>, u8>
-    ensures ok { IfOk result (λ c. ServesGet client.now request.now length next.now
-        (options_in options.now) c.value.end reply.new event.new) }
-    ensures stated { IfOk result (λ c. KnowsFirst c.value) }
-    ensures backoff { IfOk result (λ c. c.value.backoff ≡ backoff_of (options_in options.now)) }
-    ensures fits { OnOk result (event.new.send_len ≤ list_length reply.old) }
-    ensures allowed { OnOk result (HasSize options.now) }
-    ensures err { IfErr result (ServeGetFault request.now length next.now options.now
-        (list_length reply.old)) }
-    ensures unmoved { OnErr result ((event.new ≡ event.old) × (reply.new ≡ reply.old)) }
-{
-    match given::options(options) {
-        Ok(options) => get_with(alloc, client, request, length, next, &options, reply, event),
-        Err(fault) => Err(fault),
-    }
-}
-
-/// Opens an end that receives the file of a write request.
-pub(crate) fn open_put(
-    alloc: Global,
+    end: &mut TftpEnd,
     client: &TftpEndpoint,
     request: &[u8],
     options: &[u8],
     reply: &mut [u8],
     event: &mut TftpEvent,
-) -> Result<Box<Client>, u8>
-    ensures ok { IfOk result (λ c. ServesPut client.now request.now (options_in options.now)
-        c.value.end reply.new event.new) }
-    ensures stated { IfOk result (λ c. KnowsFirst c.value) }
-    ensures backoff { IfOk result (λ c. c.value.backoff ≡ backoff_of (options_in options.now)) }
-    ensures fits { OnOk result (event.new.send_len ≤ list_length reply.old) }
-    ensures allowed { OnOk result (HasSize options.now) }
-    ensures err { IfErr result (ServePutFault request.now options.now (list_length reply.old)) }
-    ensures unmoved { OnErr result ((event.new ≡ event.old) × (reply.new ≡ reply.old)) }
+) -> u8
+    ensures ok { result ≡ 0 → HoldsSuch end.new.slot.value (λ e. ServesPut client.now request.now
+        (options_in options.now) e reply.new event.new) }
+    ensures stated { result ≡ 0 → HoldsClient end.new.slot.value KnowsFirst }
+    ensures backoff { result ≡ 0 → HoldsClient end.new.slot.value
+        (λ c. c.backoff ≡ backoff_of (options_in options.now)) }
+    ensures allowed { result ≡ 0 → HasSize options.now }
+    ensures fits { result ≡ 0 → event.new.send_len ≤ list_length reply.old }
+    ensures fault { (result ≡ 0 → ⊥)
+        → ServePutFault request.now options.now (list_length reply.old) result }
+    ensures err { (result ≡ 0 → ⊥) → end.new.slot.value ≡ None }
+    ensures unmoved { (result ≡ 0 → ⊥) → (event.new ≡ event.old) × (reply.new ≡ reply.old) }
 {
-    match given::options(options) {
-        Ok(options) => put_with(alloc, client, request, &options, reply, event),
-        Err(fault) => Err(fault),
+    end.close(alloc);
+    let options = match given::options(options) {
+        Ok(options) => options,
+        Err(fault) => return fault,
+    };
+    match serve_put(alloc, client, request, &options) {
+        Ok(opened) => {
+            let served = client_of(opened, &options);
+            open(alloc, end, served, endpoint(client), 0, reply, event)
+        }
+        Err(fault) => fault,
     }
 }

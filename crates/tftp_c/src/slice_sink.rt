@@ -37,7 +37,6 @@ pub(crate) fn write_at(room: &mut [u8], at: usize, bytes: &[u8]) -> Option<usize
     ensures none { result ≡ None
         → length room.old < min at (length room.old) + length bytes.now }
     ensures left { result ≡ None → room.new ≡ room.old }
-    ensures len { length room.new ≡ length room.old }
 {
     if bytes.is_empty() {
         return Some(at);

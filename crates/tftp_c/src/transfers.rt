@@ -20,7 +20,7 @@ use tftp_ends::{Backoff, Endpoint, Outgoing, Step};
 use tftp_server::{Server, ServerFault};
 
 /// Reports a step of the transfer that has the identifier, and copies the datagram to send.
-fn report_at(
+pub(crate) fn report_at(
     server: &Server<Elsewhere>,
     tid: u16,
     backoff: Backoff,

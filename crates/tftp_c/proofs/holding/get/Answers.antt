@@ -2,6 +2,7 @@
 use Rattle.tftp_c.proofs.Common.{inl, subst, sym}
 use Rattle.std.proofs.Common.{ℕ}
 use Rattle.tftp_c.specs.ServerOpens.{AnswersGet}
+use Rattle.tftp_c.proofs.FaultLemmas.{get_fails}
 use Rattle.tftp_c.proofs.HoldingLemmas.{opens_as}
 use Rattle.tftp_c.proofs.holding.get.Goals as goal
 
@@ -16,12 +17,16 @@ returns-in-Ok-clause-ok c = λ opened.
                 subst
                 (λ (room : ℕ). AnswersGet c.args.from.now c.args.request.now c.args.length c.args.next.now
                 c.args.served.now.options room c.in-Ok.opened.end c.in-Ok.opened.count)
-                (sym c.open.ensures.room)
+                (sym c.open.auto.reply)
                 c.in-Ok.ensures.ok;
             taken = c.open.ensures.file opened;
             sent = c.open.ensures.sent opened;
           });
     }
+
+pub returns-in-Ok-clause-fault : goal.returns-in-Ok-clause-fault
+returns-in-Ok-clause-fault c = λ failed.
+    get_fails _ _ _ _ _ _ _ _ _ _ _ c.in-Ok.ensures.ok (c.open.ensures.fault failed)
 
 pub returns-in-Err-clause-fault : goal.returns-in-Err-clause-fault
 returns-in-Err-clause-fault c = λ _. inl c.in-Err.ensures.err

@@ -1,7 +1,4 @@
 -- The table has the end, for a request that the port admits.
-use Rattle.tftp_c.proofs.Common.{subst, sym}
-use Rattle.std.proofs.Common.{ℕ, Option}
-use Rattle.tftp_c.specs.Stated.{StatedBy}
 use Rattle.tftp_c.proofs.FaultLemmas.{hold_fails}
 use Rattle.tftp_c.proofs.HoldingLemmas.{opens_at}
 use Rattle.tftp_c.proofs.holding.hold.Goals as goal
@@ -11,8 +8,7 @@ returns-in-Ok-hold-clause-ok c = λ _.
     opens_at c.in-Ok-hold.field-0 c.args.tid c.args.from.now c.endpoint.result c.args.request.now
     c.args.end c.absent_files-files.result c.in-Ok.admission c.args.server.now c.hold.new.self
     c.endpoint.ensures c.in-Ok.ensures.admits c.in-Ok.ensures.bytes c.in-Ok-hold.ensures.in_use
-    (subst (λ (s : Option ℕ). StatedBy c.args.end.position.last_sent s) (sym c.absent_files-files.ensures.stated)
-    c.requires)
+    c.absent_files-files.ensures.stated
     c.in-Ok-hold.ensures.held
 
 -- A fault of the table is returned by its number.

@@ -2,5 +2,5 @@
 use Rattle.tftp_c.proofs.Common.{inl, inr, refl}
 use Rattle.tftp_c.proofs.serving.serve_put.Goals as goal
 
-pub returns-in-None-clause-err : goal.returns-in-None-clause-err
-returns-in-None-clause-err c = inr (inl (refl, c.in-None.ensures.none refl))
+pub returns-clause-err : goal.returns-clause-err
+returns-clause-err c = inr (inl (refl, c.in-None.ensures.none refl))
