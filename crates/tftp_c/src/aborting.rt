@@ -1,7 +1,6 @@
 //! A transfer that its caller ends by an ERROR.
 
-ghost use Rattle.std.specs.Prelude.{◌≡◌, ◌⊎◌, ◌≤◌, IfErr, None, OnErr, OnOk, IsSome, length};
-ghost use Rattle.tftp_server.specs.State.{at};
+ghost use Rattle.std.specs.Prelude.{◌≡◌, ◌≤◌, IfErr, None, OnErr, OnOk, length};
 ghost use Rattle.tftp_c.specs.Aborted.{AbortFails, AbortsOpen, AbortsAt, AtFault, Tells};
 ghost use Rattle.tftp_c.specs.Aborted.{abort_number};
 

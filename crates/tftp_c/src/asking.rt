@@ -4,7 +4,7 @@ ghost use Rattle.std.specs.Prelude.{◌≡◌, ◌≤◌, length, IfSome};
 ghost use Rattle.tftp_ends.specs.Step.{error_bytes};
 ghost use Rattle.tftp_server.specs.CallersFiles.{asked_mode};
 ghost use Rattle.tftp_c.specs.Modes.{mode_or_none};
-ghost use Rattle.tftp_c.specs.HeldServer.{Asks, AsksOf, AsksPath, Named, Refused};
+ghost use Rattle.tftp_c.specs.HeldServer.{Asks, AsksOf, Named, Refused};
 
 use crate::elsewhere::Elsewhere;
 use crate::event::{self, TftpEndpoint, TftpQuestion};

@@ -64,7 +64,8 @@ fn write_request(alloc: Global, name: &[u8], mode: Mode, datagram: &mut [u8]) ->
 
 /// Writes a request without options: opcode 1 is a read and 2 a write, mode 1 octet and 2 netascii.
 /// Returns its length; or 0 if it is no request, does not fit, or without memory.
-pub(crate) fn request(
+#[unsafe(no_mangle)]
+pub extern "C" fn tftp_request(
     alloc: Global,
     opcode: u16,
     mode: u8,
@@ -91,7 +92,8 @@ pub(crate) fn request(
 /// Appends an option to a request or an OACK of `used` bytes, and returns its new length; or 0 if
 /// the option has no name or a zero byte, or the result would be longer than 512 bytes or the
 /// buffer, or without memory.
-pub(crate) fn add_option(
+#[unsafe(no_mangle)]
+pub extern "C" fn tftp_add_option(
     alloc: Global,
     used: usize,
     name: &[u8],

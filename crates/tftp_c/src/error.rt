@@ -1,6 +1,6 @@
 //! An ERROR of a caller in C, which no end sends.
 
-ghost use Rattle.std.specs.Prelude.{◌≡◌, ◌≤◌, ◌↔◌, IfSome, IsTrue, length, take};
+ghost use Rattle.std.specs.Prelude.{◌≡◌, ◌↔◌, IfSome, IsTrue, length, take};
 ghost use Rattle.tftp_wire.specs.Spelling.{canonical};
 ghost use Rattle.tftp_wire.specs.Texts.{IsText};
 ghost use Rattle.tftp_wire.specs.declared.packet.Packet.TheVariants.{Error};
@@ -45,7 +45,8 @@ pub(crate) fn error_packet(alloc: Global, code: u16, text: &[u8]) -> Option<Vec<
 
 /// Writes an ERROR, and returns its length; or 0 if the text has a zero byte, or the ERROR has more
 /// than 512 bytes or does not fit, or without memory.
-pub(crate) fn write_error(alloc: Global, code: u16, text: &[u8], datagram: &mut [u8]) -> usize
+#[unsafe(no_mangle)]
+pub extern "C" fn tftp_error(alloc: Global, code: u16, text: &[u8], datagram: &mut [u8]) -> usize
     ensures error { (result ≡ 0 → ⊥) → take result datagram.new ≡ canonical (Error code text.now) }
     ensures len { (result ≡ 0 → ⊥) → result ≡ length (canonical (Error code text.now)) }
     ensures text { (result ≡ 0 → ⊥) → IsText text.now }

@@ -1,9 +1,7 @@
 //! What an end reports of its agreement with its peer.
 
-ghost use Rattle.std.specs.Prelude.{◌≡◌, ◌⊎◌, None};
-ghost use Rattle.tftp_server.specs.State.{at};
+ghost use Rattle.std.specs.Prelude.{◌≡◌, None};
 ghost use Rattle.tftp_c.specs.Elsewhere.{stated_in_files};
-ghost use Rattle.tftp_c.specs.HeldServer.{Table};
 ghost use Rattle.tftp_c.specs.Informed.{agreed_seconds, Informs, InformsAt, InformsOf, InfoFaultAt};
 
 use crate::client::Client;

@@ -35,44 +35,20 @@ mod stepping;
 mod transfers;
 mod wire_text;
 
-ghost use Rattle.std.specs.Prelude.{◌≡◌, ◌⊎◌, ◌++◌, ◌^◌, ◌-◌, ◌≤◌, Some, None, length, min, take};
+ghost use Rattle.std.specs.Prelude.{◌≡◌, ◌⊎◌, ◌-◌, ◌≤◌, Some, None, length};
 ghost use Rattle.std.specs.Prelude.{true, false, length as list_length};
-ghost use Rattle.tftp_wire.specs.Reading.{first_fault};
-ghost use Rattle.tftp_wire.specs.Faults.{kind_number};
-ghost use Rattle.tftp_wire.specs.Spelling.{Spells, canonical};
-ghost use Rattle.tftp_wire.specs.declared.packet.Packet.TheVariants.{Error};
-ghost use Rattle.tftp_wire.specs.declared.packet.Packet.{Packet};
-ghost use Rattle.tftp_wire.specs.declared.fault.PacketFault.{PacketFault};
-ghost use Rattle.tftp_file.specs.Netascii.{netascii_text};
-ghost use Rattle.tftp_wire.specs.Options.{option_bytes};
 ghost use Rattle.tftp_c.specs.Aborted.{AbortRefused, AbortsOpen, OnRecord};
-ghost use Rattle.tftp_c.specs.Built.{BuildsRequest};
 ghost use Rattle.tftp_c.specs.Handled.{HoldsClient, OnClient, OnEnd, Received, Sent, TimedOut};
 ghost use Rattle.tftp_c.specs.Informed.{InfoFault, Informs};
-ghost use Rattle.tftp_c.specs.Listed.{option_at, option_named, WritesOption};
-ghost use Rattle.tftp_c.specs.Shown.{Shows, shown_fault};
 ghost use Rattle.tftp_c.specs.Stated.{LearnsFrom, States, StatesNone};
 ghost use Rattle.tftp_c.specs.Waits.{Waits};
 
-use crate::error::write_error;
 use crate::event::{TftpEndpoint, TftpEvent, TftpInfo};
 use crate::handle::TftpEnd;
-use crate::packet::{TftpPacket, decode};
 use std::alloc::Global;
 
 /// 0.1.0, as `TFTP_VERSION` of `tftp.h`.
 const VERSION: u32 = 0x00_01_00;
-
-/// Reads a datagram, and returns 0 or the number of its first fault.
-#[unsafe(no_mangle)]
-pub extern "C" fn tftp_decode(datagram: &[u8], packet: &mut TftpPacket) -> u8
-    ensures spelled { (p : Packet) → Spells p datagram.now
-        → (result ≡ 0) × Shows p datagram.now packet.new }
-    ensures fault { (e : PacketFault) → first_fault datagram.now ≡ Some e
-        → (result ≡ kind_number e.kind) × (packet.new ≡ shown_fault e) }
-{
-    decode(datagram, packet)
-}
 
 /// Handles a datagram at a receiver: the bytes of the file that it brings are written to `file`,
 /// and the datagram to send to `reply`.
@@ -220,42 +196,6 @@ pub extern "C" fn tftp_close_end(alloc: Global, end: &mut TftpEnd)
     end.close(alloc);
 }
 
-/// Writes an ERROR, and returns its length, or 0.
-#[unsafe(no_mangle)]
-pub extern "C" fn tftp_error(alloc: Global, code: u16, text: &[u8], datagram: &mut [u8]) -> usize
-    ensures error { (result ≡ 0 → ⊥) → take result datagram.new ≡ canonical (Error code text.now) }
-    ensures len { (result ≡ 0 → ⊥) → result ≡ length (canonical (Error code text.now)) }
-{
-    write_error(alloc, code, text, datagram)
-}
-
-/// Writes the option at this index of the packet that a datagram spells, its name and its value each
-/// ended by a zero byte, and returns how many bytes they are; 0 if there is none.
-#[unsafe(no_mangle)]
-pub extern "C" fn tftp_option(
-    alloc: Global,
-    datagram: &[u8],
-    index: usize,
-    text: &mut [u8],
-) -> usize
-    ensures { (result ≡ 0 → ⊥) → WritesOption (option_at index) datagram.now text.new result }
-{
-    options::write_at(alloc, datagram, index, text)
-}
-
-/// As [`tftp_option`], the first option of this name, in any case.
-#[unsafe(no_mangle)]
-pub extern "C" fn tftp_find_option(
-    alloc: Global,
-    datagram: &[u8],
-    name: &[u8],
-    text: &mut [u8],
-) -> usize
-    ensures { (result ≡ 0 → ⊥) → WritesOption (option_named name.now) datagram.now text.new result }
-{
-    options::write_named(alloc, datagram, name, text)
-}
-
 /// Whether the packet that a datagram spells states the length of its file, which is written to
 /// `length`.
 #[unsafe(no_mangle)]
@@ -279,50 +219,4 @@ pub extern "C" fn tftp_version() -> u32
     ensures { result ≡ 256 }
 {
     VERSION
-}
-
-/// Writes a request without options, and returns its length, or 0.
-#[unsafe(no_mangle)]
-pub extern "C" fn tftp_request(
-    alloc: Global,
-    opcode: u16,
-    mode: u8,
-    name: &[u8],
-    datagram: &mut [u8],
-) -> usize
-    ensures { (result ≡ 0 → ⊥) → BuildsRequest opcode mode name.now datagram.new result }
-{
-    building::request(alloc, opcode, mode, name, datagram)
-}
-
-/// Appends an option to a request of `used` bytes, and returns its new length, or 0.
-#[unsafe(no_mangle)]
-pub extern "C" fn tftp_add_option(
-    alloc: Global,
-    used: usize,
-    name: &[u8],
-    value: &[u8],
-    datagram: &mut [u8],
-) -> usize
-    ensures { (result ≡ 0 → ⊥) → take result datagram.new ≡ take used datagram.old
-        ++ option_bytes (record { name = name.now; value = value.now }) }
-{
-    building::add_option(alloc, used, name, value, datagram)
-}
-
-/// The length of a host's text as it is sent in netascii.
-#[unsafe(no_mangle)]
-pub extern "C" fn tftp_wire_length(text: &[u8]) -> u64
-    ensures { result ≡ min (length (netascii_text text.now)) (2 ^ 64 - 1) }
-{
-    wire_text::wire_length(text)
-}
-
-/// Writes a host's text as it is sent in netascii, and returns its length, or 0.
-#[unsafe(no_mangle)]
-pub extern "C" fn tftp_to_wire(alloc: Global, text: &[u8], wire: &mut [u8]) -> usize
-    ensures len { (result ≡ 0 → ⊥) → result ≡ length (netascii_text text.now) }
-    ensures written { (result ≡ 0 → ⊥) → take result wire.new ≡ netascii_text text.now }
-{
-    wire_text::to_wire(alloc, text, wire)
 }

@@ -1,9 +1,9 @@
 //! The options of a packet, for C: by their index and by name.
 
-ghost use Rattle.std.specs.Prelude.{◌≡◌, option_map, length, take, IfSome};
+ghost use Rattle.std.specs.Prelude.{◌≡◌, option_map, length, take};
 ghost use Rattle.tftp_wire.specs.Borrowed.{owned, owned_option};
 ghost use Rattle.tftp_wire.specs.Options.{option_bytes};
-ghost use Rattle.tftp_c.specs.Listed.{options_of, option_at, is_named, option_named, HasOption};
+ghost use Rattle.tftp_c.specs.Listed.{options_of, option_at, is_named, option_named};
 ghost use Rattle.tftp_c.specs.Listed.{WritesOption};
 
 use crate::error::copy_whole;
@@ -71,8 +71,15 @@ fn write(alloc: Global, option: OptionRef<'_>, text: &mut [u8]) -> usize
     }
 }
 
-/// Writes the option at this index of the packet that the datagram spells.
-pub(crate) fn write_at(alloc: Global, datagram: &[u8], index: usize, text: &mut [u8]) -> usize
+/// Writes the option at this index of the packet that a datagram spells, its name and its value each
+/// ended by a zero byte, and returns how many bytes they are; 0 if there is none.
+#[unsafe(no_mangle)]
+pub extern "C" fn tftp_option(
+    alloc: Global,
+    datagram: &[u8],
+    index: usize,
+    text: &mut [u8],
+) -> usize
     ensures { (result ≡ 0 → ⊥) → WritesOption (option_at index) datagram.now text.new result }
 {
     match decode_ref(datagram) {
@@ -87,8 +94,14 @@ pub(crate) fn write_at(alloc: Global, datagram: &[u8], index: usize, text: &mut 
     }
 }
 
-/// Writes the first option of this name of the packet that the datagram spells.
-pub(crate) fn write_named(alloc: Global, datagram: &[u8], name: &[u8], text: &mut [u8]) -> usize
+/// As [`tftp_option`], the first option of this name, in any case.
+#[unsafe(no_mangle)]
+pub extern "C" fn tftp_find_option(
+    alloc: Global,
+    datagram: &[u8],
+    name: &[u8],
+    text: &mut [u8],
+) -> usize
     ensures { (result ≡ 0 → ⊥) → WritesOption (option_named name.now) datagram.now text.new result }
 {
     match decode_ref(datagram) {

@@ -8,15 +8,18 @@ use std::alloc::Global;
 use tftp_file::{NetEncoder, wire_length_within};
 use tftp_wire::Mode;
 
-/// The length of the wire text in bytes, or 2^64 - 1 if it is longer.
-pub(crate) fn wire_length(text: &[u8]) -> u64
+/// The length in bytes of a host's text as it is sent in netascii, or 2^64 - 1 if it is longer.
+#[unsafe(no_mangle)]
+pub extern "C" fn tftp_wire_length(text: &[u8]) -> u64
     ensures { result ≡ min (length (netascii_text text.now)) (2 ^ 64 - 1) }
 {
     wire_length_within(text, Mode::Netascii, u64::MAX)
 }
 
-/// Writes the wire text, and returns its length; or 0 if it does not fit, or without memory.
-pub(crate) fn to_wire(alloc: Global, text: &[u8], wire: &mut [u8]) -> usize
+/// Writes a host's text as it is sent in netascii, and returns its length; or 0 if it does not fit,
+/// or without memory.
+#[unsafe(no_mangle)]
+pub extern "C" fn tftp_to_wire(alloc: Global, text: &[u8], wire: &mut [u8]) -> usize
     ensures len { (result ≡ 0 → ⊥) → result ≡ length (netascii_text text.now) }
     ensures written { (result ≡ 0 → ⊥) → take result wire.new ≡ netascii_text text.now }
 {

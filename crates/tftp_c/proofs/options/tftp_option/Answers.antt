@@ -3,7 +3,7 @@ use Rattle.tftp_c.proofs.Common.{owned}
 use Rattle.tftp_wire.specs.Borrowed.{owned_option}
 use Rattle.tftp_c.specs.Listed.{option_at}
 use Rattle.tftp_c.proofs.ListedLemmas.{writes_option}
-use Rattle.tftp_c.proofs.options.write_at.Goals as goal
+use Rattle.tftp_c.proofs.options.tftp_option.Goals as goal
 
 pub returns-in-Some-option_at : goal.returns-in-Some-option_at
 returns-in-Some-option_at c = λ some.

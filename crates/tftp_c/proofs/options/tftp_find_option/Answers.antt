@@ -3,7 +3,7 @@ use Rattle.tftp_c.proofs.Common.{owned}
 use Rattle.tftp_wire.specs.Borrowed.{owned_option}
 use Rattle.tftp_c.specs.Listed.{option_named}
 use Rattle.tftp_c.proofs.ListedLemmas.{writes_option}
-use Rattle.tftp_c.proofs.options.write_named.Goals as goal
+use Rattle.tftp_c.proofs.options.tftp_find_option.Goals as goal
 
 pub returns-in-Some-option_named : goal.returns-in-Some-option_named
 returns-in-Some-option_named c = λ some.
