@@ -21,6 +21,13 @@ use Rattle.tftp_c.proofs.StoredLemmas.{seen, stored_made}
 pub some_of : {T : Type 0} (o : Option T) (x : T) → o ≡ Some x → IsSome o
 some_of {T = T} o x is = subst (λ (p : Option T). IsSome p) (sym is) refl
 
+-- a transfer that made a step is held
+pub held_after : (tid : ℕ) (old new : List (ℕ × CallersTransfer)) (was now : CallersTransfer) → at tid old ≡ Some was →
+    new ≡ with_next tid now old → IsSome (at tid new)
+held_after tid old new was now found is =
+    subst (λ (h : List (ℕ × CallersTransfer)). IsSome (at tid h)) (sym is)
+    (some_of (at tid (with_next tid now old)) now (next_there tid old was now found))
+
 module _ (tid : ℕ) {does : EndState → EndState → Type 0} (old new : Table) (h : StepsAt tid does old new) where
   -- the transfer after its step
   abbrev stepped : CallersTransfer
@@ -30,9 +37,6 @@ module _ (tid : ℕ) {does : EndState → EndState → Type 0} (old new : Table)
   stepped_there =
       subst (λ (t : Table). at tid t.held ≡ Some stepped) (sym h.held)
       (next_there tid old.held h.transfer stepped h.found)
-
-  pub still_held : IsSome (at tid new.held)
-  still_held = some_of (at tid new.held) stepped stepped_there
 
   -- what is known of the end after it
   pub steps_as : (makes : EndState → EndState → Type 0) (after : EndState → Type 0) →

@@ -29,15 +29,6 @@ impl TftpEnd {
         }
     }
 
-    fn of(client: Box<Client>) -> TftpEnd
-        ensures { result.slot.value ≡ Some client.value }
-    {
-        TftpEnd {
-            is_open: true,
-            slot: Slot::of(client),
-        }
-    }
-
     pub(crate) fn is_open(&self) -> bool
         ensures { result ≡ is_some self.now.slot.value }
     {
@@ -62,7 +53,11 @@ impl TftpEnd {
         requires { self.old.slot.value ≡ None }
         ensures { self.new.slot.value ≡ Some client.value }
     {
-        mem::replace(self, TftpEnd::of(client));
+        let held = TftpEnd {
+            is_open: true,
+            slot: Slot::of(client),
+        };
+        mem::replace(self, held);
     }
 
     #[inline(never)]

@@ -29,15 +29,6 @@ impl TftpServer {
         }
     }
 
-    fn of(server: Box<HeldServer>) -> TftpServer
-        ensures { result.slot.value ≡ Some server.value }
-    {
-        TftpServer {
-            is_open: true,
-            slot: ServerSlot::of(server),
-        }
-    }
-
     pub(crate) fn is_open(&self) -> bool
         ensures { result ≡ is_some self.now.slot.value }
     {
@@ -62,7 +53,11 @@ impl TftpServer {
         requires { self.old.slot.value ≡ None }
         ensures { self.new.slot.value ≡ Some server.value }
     {
-        mem::replace(self, TftpServer::of(server));
+        let held = TftpServer {
+            is_open: true,
+            slot: ServerSlot::of(server),
+        };
+        mem::replace(self, held);
     }
 
     pub(crate) fn close(&mut self, alloc: Global)

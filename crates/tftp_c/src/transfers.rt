@@ -1,14 +1,13 @@
 //! The steps of the transfers of a server for C, over the bytes of its caller.
 
-ghost use Rattle.std.specs.Prelude.{◌≡◌, ◌↔◌, ◌≤◌, false, IfOk, IsErrOf, IsSome, OnErr, Some};
+ghost use Rattle.std.specs.Prelude.{◌≡◌, ◌↔◌, ◌≤◌, false, IsSome, Some};
 ghost use Rattle.std.specs.Prelude.{length};
 ghost use Rattle.tftp_ends.specs.Step.{lent};
 ghost use Rattle.tftp_server.specs.CallersFiles.{is_open_receiver, is_open_sender};
 ghost use Rattle.tftp_server.specs.State.{at, is_open};
-ghost use Rattle.tftp_c.specs.Handled.{Stored, Taken};
 ghost use Rattle.tftp_c.specs.Reports.{Reports, Sends};
 ghost use Rattle.tftp_c.specs.Waits.{WaitsAt};
-ghost use Rattle.tftp_c.specs.HeldServer.{CallersTransfer, ReceivedAt, SentAt, StepsAt, TimedOutAt};
+ghost use Rattle.tftp_c.specs.HeldServer.{CallersTransfer, ReceivedAt, SentAt, TimedOutAt};
 
 use crate::elsewhere::Elsewhere;
 use crate::event::{TftpEndpoint, TftpEvent};
@@ -53,55 +52,6 @@ pub(crate) fn report_at(
     report_apart(&record, wait, step, datagram, reply, file_len, event);
 }
 
-/// A receiver's step over a buffer, with the number of bytes that it stored.
-fn store(
-    server: &mut Server<Elsewhere>,
-    tid: u16,
-    from: Endpoint,
-    datagram: &[u8],
-    file: &mut [u8],
-) -> Result<(Step, Outgoing, usize), ServerFault>
-    ensures ok { IfOk result (λ made. StepsAt tid (λ before e. Stored from datagram.now before e
-        file.old file.new made.0 made.1 made.2) server.old server.new) }
-    ensures no_such_tid { IsErrOf result ServerFault.NoSuchTid
-        ↔ (is_open_receiver (at tid server.old.held) ≡ false) }
-    ensures err { OnErr result (server.new ≡ server.old) }
-{
-    let mut sink = SliceSink {
-        room: file,
-        used: 0,
-        is_committed: false,
-    };
-    match server.lend_sink(tid, &mut sink, from, datagram) {
-        Ok((step, outgoing)) => Ok((step, outgoing, sink.count())),
-        Err(fault) => Err(fault),
-    }
-}
-
-/// A sender's step over the next bytes of its file, with the number of bytes that it took.
-fn take(
-    server: &mut Server<Elsewhere>,
-    tid: u16,
-    from: Endpoint,
-    datagram: &[u8],
-    next: &[u8],
-) -> Result<(Step, Outgoing, usize), ServerFault>
-    ensures ok { IfOk result (λ made. StepsAt tid (λ before e. Taken from datagram.now before e
-        next.now made.0 made.1 made.2) server.old server.new) }
-    ensures no_such_tid { IsErrOf result ServerFault.NoSuchTid
-        ↔ (is_open_sender (at tid server.old.held) ≡ false) }
-    ensures err { OnErr result (server.new ≡ server.old) }
-{
-    let mut source = SliceSource::of(next);
-    match server.lend_source(tid, &mut source, from, datagram) {
-        Ok((step, outgoing)) => {
-            let count = source.taken_of(next);
-            Ok((step, outgoing, count))
-        }
-        Err(fault) => Err(fault),
-    }
-}
-
 /// Handles a datagram at a transfer that receives.
 pub(crate) fn receive(
     server: &mut Server<Elsewhere>,
@@ -121,8 +71,14 @@ pub(crate) fn receive(
         ↔ (is_open_receiver (at tid server.old.held) ≡ false) }
     ensures err { (result ≡ 0 → ⊥) → (server.new ≡ server.old) × (event.new ≡ event.old) }
 {
-    match store(server, tid, endpoint(from), datagram, file) {
-        Ok((step, outgoing, count)) => {
+    let mut sink = SliceSink {
+        room: file,
+        used: 0,
+        is_committed: false,
+    };
+    match server.lend_sink(tid, &mut sink, endpoint(from), datagram) {
+        Ok((step, outgoing)) => {
+            let count = sink.count();
             report_at(server, tid, backoff, step, outgoing, reply, count, event);
             0
         }
@@ -149,8 +105,10 @@ pub(crate) fn send(
         ↔ (is_open_sender (at tid server.old.held) ≡ false) }
     ensures err { (result ≡ 0 → ⊥) → (server.new ≡ server.old) × (event.new ≡ event.old) }
 {
-    match take(server, tid, endpoint(from), datagram, next) {
-        Ok((step, outgoing, count)) => {
+    let mut source = SliceSource::of(next);
+    match server.lend_source(tid, &mut source, endpoint(from), datagram) {
+        Ok((step, outgoing)) => {
+            let count = source.taken_of(next);
             report_at(server, tid, backoff, step, outgoing, reply, count, event);
             0
         }
