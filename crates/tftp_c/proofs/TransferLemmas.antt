@@ -15,7 +15,7 @@ use Rattle.tftp_c.specs.declared.slice_sink.SliceSink.{SliceSink}
 use Rattle.tftp_c.specs.Handled.{Received, Sent, Stored, Taken, TimedOut}
 use Rattle.tftp_c.specs.Reports.{Reports, Sends}
 use Rattle.tftp_c.specs.HeldServer.{CallersTransfer, StepsAt}
-use Rattle.tftp_c.proofs.ReplyLemmas.{steps_of, timed_out}
+use Rattle.tftp_c.proofs.ReplyLemmas.{received, sent, timed_out}
 use Rattle.tftp_c.proofs.StoredLemmas.{seen, stored_made}
 
 pub some_of : {T : Type 0} (o : Option T) (x : T) → o ≡ Some x → IsSome o
@@ -70,14 +70,8 @@ module _ (tid : ℕ) (old new : Table) (step : Step) (outgoing : Outgoing) (coun
   received_at from at datagram room bytes is h =
       steps_as tid old new h (λ before e. Received from datagram before e room bytes reply event)
       (Told step outgoing reply event) told
-      (λ before e s t. record {
-        turn = s.turn;
-        sink = s.sink;
-        makes = subst (λ (a : Endpoint). ReceiverStep memory_sink a datagram before (new_mem_sink (length room) false)
-            s.turn s.sink) is s.makes;
-        stored = subst (λ (n : ℕ). take n bytes ≡ s.sink.holding.bytes) (sym file) s.stored;
-        steps = steps_of before s.turn e step outgoing reply event s.lends s.reports t.0 progress t.1;
-      })
+      (λ before e s t.
+      received from at datagram before e room bytes step outgoing count reply event is s t.0 file progress t.1)
 
   pub sent_at : (from : TftpEndpoint) (at : Endpoint) (datagram next : List ℕ) → at ≡ endpoint_of from →
       StepsAt tid (λ before e. Taken at datagram before e next step outgoing count) old new →
@@ -85,13 +79,8 @@ module _ (tid : ℕ) (old new : Table) (step : Step) (outgoing : Outgoing) (coun
   sent_at from at datagram next is h =
       steps_as tid old new h (λ before e. Sent from datagram before e next reply event)
       (Told step outgoing reply event) told
-      (λ before e s t. record {
-        turn = s.turn;
-        rest = s.rest;
-        makes = subst (λ (a : Endpoint). SenderStep memory_source a datagram before next s.turn s.rest) is s.makes;
-        taken = file ∙ s.taken;
-        steps = steps_of before s.turn e step outgoing reply event s.lends s.reports t.0 progress t.1;
-      })
+      (λ before e s t.
+      sent from at datagram before e next step outgoing count reply event is s t.0 file progress t.1)
 
   pub timed_out_at :
       StepsAt tid (λ before e. Lends before (timeout_turn before) e step.to outgoing

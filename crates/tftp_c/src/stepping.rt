@@ -1,13 +1,8 @@
 //! The steps of an end for C.
 
-ghost use Rattle.std.specs.Prelude.{◌≡◌, ◌≤◌, true, false, length, IfOk, OnErr, Option};
-ghost use Rattle.tftp_wire.specs.declared.packet.Packet.{Packet};
-ghost use Rattle.tftp_ends.specs.declared.action.Action.TheVariants.{Send, Store};
-ghost use Rattle.tftp_ends.specs.declared.phase.Phase.TheVariants.{Receiving, Sending};
-ghost use Rattle.tftp_ends.specs.Action.{Decodes, datagram_action};
+ghost use Rattle.std.specs.Prelude.{◌≡◌, ◌≤◌, false, length, Option};
 ghost use Rattle.tftp_ends.specs.End.{is_sender, record_of};
-ghost use Rattle.tftp_ends.specs.Fits.{ActionFits, BytesFit};
-ghost use Rattle.tftp_c.specs.Handled.{Received, Sent, Stored, Taken, TimedOut};
+ghost use Rattle.tftp_c.specs.Handled.{Received, Sent, TimedOut};
 ghost use Rattle.tftp_c.specs.Reports.{Reports, Sends};
 ghost use Rattle.tftp_c.specs.Stated.{Learns, LearnsFrom};
 ghost use Rattle.tftp_ends.specs.Step.{lent};
@@ -28,110 +23,6 @@ fn end_fault(fault: EndFault) -> u8
     match fault {
         EndFault::Closed => event::CLOSED,
         EndFault::Memory => event::MEMORY,
-    }
-}
-
-/// A receiver's step over a buffer, with the number of bytes that it stored.
-#[inline(always)]
-fn store(
-    end: &mut End,
-    from: Endpoint,
-    datagram: &[u8],
-    file: &mut [u8],
-) -> Result<(Step, Outgoing, usize), EndFault>
-    requires { is_sender end.old.role.side ≡ false }
-    ensures ok { IfOk result (λ made. Stored from datagram.now end.old end.new file.old file.new
-        made.0 made.1 made.2) }
-    ensures err { OnErr result (end.new ≡ end.old) }
-{
-    let mut sink = SliceSink {
-        room: file,
-        used: 0,
-        is_committed: false,
-    };
-    match end.handle_any_as_receiver(&mut sink, from, datagram) {
-        Ok((step, outgoing)) => Ok((step, outgoing, sink.count())),
-        Err(fault) => Err(fault),
-    }
-}
-
-/// As [`store`], of the next block.
-#[inline(always)]
-fn store_next(
-    end: &mut End,
-    next: NextBlock,
-    from: Endpoint,
-    datagram: &[u8],
-    file: &mut [u8],
-) -> Result<(Step, Outgoing, usize), EndFault>
-    requires phase { end.old.position.phase ≡ Receiving next.terms next.newest }
-    requires action { (decoded : Option Packet) × Decodes datagram.now decoded
-        × (Store next.terms next.number ≡ datagram_action end.old from datagram.now decoded) }
-    requires fits { ActionFits end.old (Store next.terms next.number) }
-    requires bytes { BytesFit end.old datagram.now (Store next.terms next.number) }
-    ensures ok { IfOk result (λ made. Stored from datagram.now end.old end.new file.old file.new
-        made.0 made.1 made.2) }
-    ensures err { OnErr result (end.new ≡ end.old) }
-{
-    let mut sink = SliceSink {
-        room: file,
-        used: 0,
-        is_committed: false,
-    };
-    match end.store_next(next, &mut sink, from, datagram) {
-        Ok((step, outgoing)) => Ok((step, outgoing, sink.count())),
-        Err(fault) => Err(fault),
-    }
-}
-
-/// A sender's step over the next bytes of its file, with the number of bytes that it took.
-#[inline(always)]
-fn take(
-    end: &mut End,
-    from: Endpoint,
-    datagram: &[u8],
-    next: &[u8],
-) -> Result<(Step, Outgoing, usize), EndFault>
-    requires { is_sender end.old.role.side ≡ true }
-    ensures ok { IfOk result (λ made. Taken from datagram.now end.old end.new next.now
-        made.0 made.1 made.2) }
-    ensures err { OnErr result (end.new ≡ end.old) }
-{
-    let mut source = SliceSource::of(next);
-    match end.handle_any_as_sender(&mut source, from, datagram) {
-        Ok((step, outgoing)) => {
-            let count = source.taken_of(next);
-            Ok((step, outgoing, count))
-        }
-        Err(fault) => Err(fault),
-    }
-}
-
-/// As [`take`], of the next block.
-#[inline(always)]
-fn take_next(
-    end: &mut End,
-    block: NextBlock,
-    from: Endpoint,
-    datagram: &[u8],
-    next: &[u8],
-) -> Result<(Step, Outgoing, usize), EndFault>
-    requires phase { end.old.position.phase ≡ Sending block.terms block.newest }
-    requires action { (decoded : Option Packet) × Decodes datagram.now decoded
-        × (Send block.terms block.number ≡ datagram_action end.old from datagram.now decoded) }
-    requires fits { ActionFits end.old (Send block.terms block.number) }
-    requires bytes { BytesFit end.old datagram.now (Send block.terms block.number) }
-    ensures ok { IfOk result (λ made. Taken from datagram.now end.old end.new next.now
-        made.0 made.1 made.2) }
-    ensures err { OnErr result (end.new ≡ end.old) }
-{
-    let mut source = SliceSource::of(next);
-    match end.send_next(block, &mut source, from, datagram) {
-        Ok((step, outgoing)) => {
-            let count = source.taken_of(next);
-            Ok((step, outgoing, count))
-        }
-        Err(fault) => Err(fault),
     }
 }
 
@@ -189,8 +80,17 @@ pub(crate) fn receive(
     let Some(next) = client.end.next_block(endpoint(from), datagram) else {
         return receive_any(client, from, datagram, file, reply, event);
     };
-    match store_next(&mut client.end, next, endpoint(from), datagram, file) {
-        Ok(made) => {
+    let mut sink = SliceSink {
+        room: file,
+        used: 0,
+        is_committed: false,
+    };
+    match client
+        .end
+        .store_next(next, &mut sink, endpoint(from), datagram)
+    {
+        Ok((step, outgoing)) => {
+            let made = (step, outgoing, sink.count());
             conclude(client, Some(next.peer()), datagram, made, reply, event);
             0
         }
@@ -220,8 +120,17 @@ fn receive_any(
     if before.side.is_sender() {
         return event::WRONG_SIDE;
     }
-    match store(&mut client.end, endpoint(from), datagram, file) {
-        Ok(made) => {
+    let mut sink = SliceSink {
+        room: file,
+        used: 0,
+        is_committed: false,
+    };
+    match client
+        .end
+        .handle_any_as_receiver(&mut sink, endpoint(from), datagram)
+    {
+        Ok((step, outgoing)) => {
+            let made = (step, outgoing, sink.count());
             conclude(client, before.peer, datagram, made, reply, event);
             0
         }
@@ -251,8 +160,13 @@ pub(crate) fn send(
     let Some(block) = client.end.next_ack(endpoint(from), datagram) else {
         return send_any(client, from, datagram, next, reply, event);
     };
-    match take_next(&mut client.end, block, endpoint(from), datagram, next) {
-        Ok(made) => {
+    let mut source = SliceSource::of(next);
+    match client
+        .end
+        .send_next(block, &mut source, endpoint(from), datagram)
+    {
+        Ok((step, outgoing)) => {
+            let made = (step, outgoing, source.taken_of(next));
             conclude(client, Some(block.peer()), datagram, made, reply, event);
             0
         }
@@ -282,8 +196,13 @@ fn send_any(
     if !before.side.is_sender() {
         return event::WRONG_SIDE;
     }
-    match take(&mut client.end, endpoint(from), datagram, next) {
-        Ok(made) => {
+    let mut source = SliceSource::of(next);
+    match client
+        .end
+        .handle_any_as_sender(&mut source, endpoint(from), datagram)
+    {
+        Ok((step, outgoing)) => {
+            let made = (step, outgoing, source.taken_of(next));
             conclude(client, before.peer, datagram, made, reply, event);
             0
         }
