@@ -1,7 +1,7 @@
 //! A transfer that its caller ends by an ERROR.
 
 ghost use Rattle.std.specs.Prelude.{◌≡◌, ◌≤◌, IfErr, None, OnErr, OnOk, length};
-ghost use Rattle.tftp_c.specs.Aborted.{AbortFails, AbortsOpen, AbortsAt, AtFault, Tells};
+ghost use Rattle.tftp_c.specs.Aborted.{AbortFails, AbortsOpen, AbortsAt, AtFault};
 ghost use Rattle.tftp_c.specs.Aborted.{abort_number};
 
 use crate::elsewhere::Elsewhere;
@@ -33,24 +33,8 @@ pub(crate) fn abort_number(fault: AbortFault, over: u8) -> u8
     }
 }
 
-/// Reports the abort of a transfer, and copies its ERROR for the peer, if there is one yet.
-fn report_abort(state: &Record, error: &[u8], reply: &mut [u8], event: &mut TftpEvent)
-    requires { state.now.outcome ≡ None }
-    ensures tells { Tells state.now error.now reply.new event.new }
-    ensures fits { event.new.send_len ≤ length reply.old }
-{
-    let step = Step {
-        to: state.peer,
-        progress: false,
-        closed: None,
-    };
-    let wait = u16::from(state.interval());
-    report_apart(state, wait, step, error, reply, 0, event);
-    event.complete = false;
-    event.outcome = event::ABORTED;
-}
-
-/// Aborts an open transfer, of which this is the record.
+/// Aborts an open transfer, of which this is the record: it reports the end, and copies the ERROR for
+/// the peer, if there is one yet.
 pub(crate) fn abort(
     alloc: Global,
     state: &Record,
@@ -72,7 +56,15 @@ pub(crate) fn abort(
     }
     match error_packet(alloc, code, text) {
         Some(error) => {
-            report_abort(state, error.as_slice(), reply, event);
+            let step = Step {
+                to: state.peer,
+                progress: false,
+                closed: None,
+            };
+            let wait = u16::from(state.interval());
+            report_apart(state, wait, step, error.as_slice(), reply, 0, event);
+            event.complete = false;
+            event.outcome = event::ABORTED;
             Ok(())
         }
         None => Err(AbortFault::Memory),

@@ -1,11 +1,10 @@
 //! A request that a caller in C builds itself, and the options that it adds to it.
 
-ghost use Rattle.std.specs.Prelude.{◌≡◌, ◌++◌, IfSome, IsTrue, length, take};
+ghost use Rattle.std.specs.Prelude.{◌≡◌, ◌++◌, [], IfSome, IsTrue, length, take};
 ghost use Rattle.tftp_wire.specs.Options.{option_bytes};
-ghost use Rattle.tftp_wire.specs.Spelling.{canonical, default_request};
+ghost use Rattle.tftp_wire.specs.Spelling.{canonical};
 ghost use Rattle.tftp_wire.specs.Texts.{IsText};
-ghost use Rattle.tftp_wire.specs.declared.packet.Packet.TheVariants.{Read, Write};
-ghost use Rattle.tftp_c.specs.Built.{BuildsRequest};
+ghost use Rattle.tftp_c.specs.Built.{plain_request, BuildsRequest};
 ghost use Rattle.tftp_c.specs.Modes.{mode_number};
 
 use crate::error::copy_whole;
@@ -34,31 +33,16 @@ fn is_name(name: &[u8], mode: Mode) -> bool
     !name.is_empty() && both <= MAX_REQUEST - AROUND && is_text(name)
 }
 
-/// Writes a read request without options, and returns its length, or 0.
-fn read_request(alloc: Global, name: &[u8], mode: Mode, datagram: &mut [u8]) -> usize
-    ensures written { (result ≡ 0 → ⊥)
-        → take result datagram.new ≡ canonical (Read (default_request name.now mode)) }
-    ensures len { (result ≡ 0 → ⊥)
-        → result ≡ length (canonical (Read (default_request name.now mode))) }
+/// Appends a request without options to nothing, and returns whether there is one: opcode 1 is a read
+/// and 2 a write.
+fn append_request(out: &mut Vec<u8>, opcode: u16, name: &[u8], mode: Mode) -> bool
+    requires { out.old.items ≡ [] }
+    ensures { IsTrue result → out.new.items ≡ canonical (plain_request opcode name.now mode) }
 {
-    let mut out = Vec::new(alloc);
-    match append_read(&mut out, name, mode) {
-        Ok(()) => copy_whole(out.as_slice(), datagram),
-        Err(_) => 0,
-    }
-}
-
-/// Writes a write request without options, and returns its length, or 0.
-fn write_request(alloc: Global, name: &[u8], mode: Mode, datagram: &mut [u8]) -> usize
-    ensures written { (result ≡ 0 → ⊥)
-        → take result datagram.new ≡ canonical (Write (default_request name.now mode)) }
-    ensures len { (result ≡ 0 → ⊥)
-        → result ≡ length (canonical (Write (default_request name.now mode))) }
-{
-    let mut out = Vec::new(alloc);
-    match append_write(&mut out, name, mode) {
-        Ok(()) => copy_whole(out.as_slice(), datagram),
-        Err(_) => 0,
+    match opcode {
+        1 => append_read(out, name, mode).is_ok(),
+        2 => append_write(out, name, mode).is_ok(),
+        _ => false,
     }
 }
 
@@ -79,11 +63,11 @@ pub extern "C" fn tftp_request(
             if !is_name(name, mode) {
                 return 0;
             }
-            match opcode {
-                1 => read_request(alloc, name, mode, datagram),
-                2 => write_request(alloc, name, mode, datagram),
-                _ => 0,
+            let mut out = Vec::new(alloc);
+            if !append_request(&mut out, opcode, name, mode) {
+                return 0;
             }
+            copy_whole(out.as_slice(), datagram)
         }
         None => 0,
     }

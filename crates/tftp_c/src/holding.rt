@@ -1,10 +1,10 @@
 //! How a server for C opens, and how a transfer opens in it: once its caller has found the file.
 
-ghost use Rattle.std.specs.Prelude.{◌≡◌, ◌⊎◌, ◌≤◌, IfOk, IfErr, OnOk, length as list_length};
+ghost use Rattle.std.specs.Prelude.{◌≡◌, ◌⊎◌, ◌≤◌, None, length as list_length};
 ghost use Rattle.tftp_ends.specs.Files.{AreFilesOf};
 ghost use Rattle.tftp_server.specs.Config.{IsConfig};
 ghost use Rattle.tftp_c.specs.Faults.{FirstTooLong, GetFails, PutFails, ReturnsHeld, StartRefused};
-ghost use Rattle.tftp_c.specs.HeldServer.{config_of, table_fault, OpensAt, OpensGet, OpensPut};
+ghost use Rattle.tftp_c.specs.HeldServer.{config_of, table_fault, HoldsServer, OpensAt, OpensGet, OpensPut};
 ghost use Rattle.tftp_c.specs.HeldServer.{Starts};
 ghost use Rattle.tftp_c.specs.Elsewhere.{stated_in_files};
 ghost use Rattle.tftp_c.specs.Opens.{FirstSent};
@@ -18,6 +18,7 @@ use crate::given;
 use crate::held_server::HeldServer;
 use crate::opening::fits;
 use crate::report::{endpoint, opening_step};
+use crate::server_handle::TftpServer;
 use crate::serving::{Served, limits, serve_get, serve_put};
 use crate::stated::stated_by;
 use crate::transfers::report_at;
@@ -37,24 +38,46 @@ fn config(options: &TftpOptions, transfers: u8) -> Config
     }
 }
 
-/// A server without transfers, which holds so many at once.
-pub(crate) fn start(alloc: Global, options: &[u8], transfers: u8) -> Result<HeldServer, u8>
-    ensures ok { IfOk result (Starts (options_in options.now) transfers) }
-    ensures allowed { OnOk result (HasSize options.now
-        × IsConfig (config_of (options_in options.now) transfers)) }
-    ensures err { IfErr result (StartRefused options.now transfers) }
+/// Opens a server that holds at most so many transfers at once, after closing what `server` held.
+/// After a fault `server` is closed.
+#[unsafe(no_mangle)]
+pub extern "C" fn tftp_open_server(
+    alloc: Global,
+    server: &mut TftpServer,
+    options: &[u8],
+    transfers: u8,
+) -> u8
+    ensures ok { result ≡ 0
+        → HoldsServer server.new.slot.value (λ s. Starts (options_in options.now) transfers s) }
+    ensures allowed { result ≡ 0
+        → HasSize options.now × IsConfig (config_of (options_in options.now) transfers) }
+    ensures fault { (result ≡ 0 → ⊥) → StartRefused options.now transfers result }
+    ensures err { (result ≡ 0 → ⊥) → server.new.slot.value ≡ None }
 {
+    server.close(alloc);
     let options = match given::options(options) {
         Ok(options) => options,
-        Err(fault) => return Err(fault),
+        Err(fault) => return fault,
     };
     let config = config(&options, transfers);
     if !config.is_valid() {
-        return Err(event::BAD_REQUEST);
+        return event::BAD_REQUEST;
     }
     match Server::new(alloc, config, Elsewhere) {
-        Ok(server) => Ok(HeldServer { server, options }),
-        Err(_) => Err(event::MEMORY),
+        Ok(opened) => match Box::new(
+            alloc,
+            HeldServer {
+                server: opened,
+                options,
+            },
+        ) {
+            Ok(opened) => {
+                server.put(opened);
+                0
+            }
+            Err(_) => event::MEMORY,
+        },
+        Err(_) => event::MEMORY,
     }
 }
 

@@ -2,9 +2,8 @@
 
 ghost use Rattle.std.specs.Prelude.{◌≡◌, None};
 ghost use Rattle.tftp_c.specs.Elsewhere.{stated_in_files};
-ghost use Rattle.tftp_c.specs.Informed.{agreed_seconds, Informs, InformsAt, InformsOf, InfoFaultAt};
+ghost use Rattle.tftp_c.specs.Informed.{agreed_seconds, InformsAt, InformsOf, InfoFaultAt};
 
-use crate::client::Client;
 use crate::elsewhere::{Absent, Elsewhere};
 use crate::event::{self, INFO_SIZE, TftpInfo};
 use tftp_ends::Record;
@@ -19,7 +18,7 @@ fn agreed_seconds(timeout: Option<u8>) -> u8
 }
 
 /// What an end with this record has agreed: the stated length, the timeout and the block size.
-fn agreed(state: &Record, stated: Option<u64>) -> TftpInfo
+pub(crate) fn agreed(state: &Record, stated: Option<u64>) -> TftpInfo
     ensures { InformsOf state.now stated result }
 {
     let timeout = agreed_seconds(state.timeout);
@@ -41,13 +40,6 @@ fn agreed(state: &Record, stated: Option<u64>) -> TftpInfo
             reserved: [0; 4],
         },
     }
-}
-
-/// What the end of a client has agreed with its peer.
-pub(crate) fn info(client: &Client) -> TftpInfo
-    ensures { Informs client.now result }
-{
-    agreed(&client.end.record(), client.stated)
 }
 
 /// The length of the file of a transfer, if one was stated.

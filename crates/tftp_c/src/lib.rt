@@ -183,7 +183,8 @@ pub extern "C" fn tftp_end_info(end: &mut TftpEnd, info: &mut TftpInfo) -> u8
     if !end.is_open() {
         return event::NOT_OPEN;
     }
-    *info = informing::info(end.slot.client());
+    let client = end.slot.client();
+    *info = informing::agreed(&client.end.record(), client.stated);
     0
 }
 

@@ -2,50 +2,18 @@
 
 ghost use Rattle.std.specs.Prelude.{◌≡◌, ◌↔◌, ◌≤◌, false, is_some, length as list_length, None};
 ghost use Rattle.tftp_server.specs.CallersFiles.{is_open_receiver, is_open_sender};
-ghost use Rattle.tftp_server.specs.Config.{IsConfig};
 ghost use Rattle.tftp_server.specs.State.{at, is_open, without};
-ghost use Rattle.tftp_c.specs.Faults.{GetFails, PutFails, StartRefused};
-ghost use Rattle.tftp_c.specs.HeldServer.{AsksOf, HoldsServer, OnServer, OpensGet, OpensPut};
+ghost use Rattle.tftp_c.specs.Faults.{GetFails, PutFails};
+ghost use Rattle.tftp_c.specs.HeldServer.{AsksOf, OnServer, OpensGet, OpensPut};
 ghost use Rattle.tftp_c.specs.Aborted.{AbortsAt, AtFault};
-ghost use Rattle.tftp_c.specs.HeldServer.{config_of};
-ghost use Rattle.tftp_c.specs.HeldServer.{ReceivedAt, SentAt, Starts, TimedOutAt};
+ghost use Rattle.tftp_c.specs.HeldServer.{ReceivedAt, SentAt, TimedOutAt};
 ghost use Rattle.tftp_c.specs.Informed.{InformsAt, InfoFaultAt};
-ghost use Rattle.tftp_c.specs.Options.{HasSize, options_in};
 ghost use Rattle.tftp_c.specs.Waits.{backoff_of, WaitsAt};
 
 use crate::event::{self, TftpEndpoint, TftpEvent, TftpInfo, TftpQuestion};
 use crate::server_handle::TftpServer;
 use crate::{aborting, asking, holding, informing, transfers};
 use std::alloc::Global;
-
-/// Opens a server that holds at most so many transfers at once, after closing what `server` held.
-/// After a fault `server` is closed.
-#[unsafe(no_mangle)]
-pub extern "C" fn tftp_open_server(
-    alloc: Global,
-    server: &mut TftpServer,
-    options: &[u8],
-    transfers: u8,
-) -> u8
-    ensures ok { result ≡ 0
-        → HoldsServer server.new.slot.value (λ s. Starts (options_in options.now) transfers s) }
-    ensures allowed { result ≡ 0
-        → HasSize options.now × IsConfig (config_of (options_in options.now) transfers) }
-    ensures fault { (result ≡ 0 → ⊥) → StartRefused options.now transfers result }
-    ensures err { (result ≡ 0 → ⊥) → server.new.slot.value ≡ None }
-{
-    server.close(alloc);
-    match holding::start(alloc, options, transfers) {
-        Ok(opened) => match Box::new(alloc, opened) {
-            Ok(opened) => {
-                server.put(opened);
-                0
-            }
-            Err(_) => event::MEMORY,
-        },
-        Err(fault) => fault,
-    }
-}
 
 /// Reads a datagram at the request port: the path of the file that it asks for is written to
 /// `name`, or the ERROR that answers it to `reply`.
