@@ -15,17 +15,6 @@ use std::alloc::Global;
 use tftp_ends::ErrorReply;
 use tftp_server::{Admission, Server};
 
-/// Writes a path to the start of a buffer, if it fits, with a zero byte behind it, if that fits.
-fn write_path(path: &[u8], name: &mut [u8]) -> usize
-    ensures { Named path.now name.new result }
-{
-    let len = path.len();
-    if let Some(end) = write_at(name, 0, path) {
-        write_at(name, end, &[0]);
-    }
-    len
-}
-
 /// The number of the mode of a request that may be served, or 0.
 fn mode_of(admission: &Admission<'_>) -> u8
     ensures { result ≡ mode_or_none (asked_mode admission.now.ask) }
@@ -36,16 +25,20 @@ fn mode_of(admission: &Admission<'_>) -> u8
     }
 }
 
-/// Asks for the file at a path, which is written to `name`.
+/// Asks for the file at a path, which is written to the start of `name`, if it fits, with a zero byte
+/// behind it, if that fits.
 fn about(wants: u8, mode: u8, path: &[u8], name: &mut [u8]) -> TftpQuestion
     ensures wants { result.wants ≡ wants }
     ensures mode { result.mode ≡ mode }
     ensures none { result.send_len ≡ 0 }
     ensures path { Named path.now name.new result.name_len }
 {
+    if let Some(end) = write_at(name, 0, path) {
+        write_at(name, end, &[0]);
+    }
     TftpQuestion {
         send_len: 0,
-        name_len: write_path(path, name),
+        name_len: path.len(),
         wants,
         mode,
         reserved: [0; 6],

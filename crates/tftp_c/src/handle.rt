@@ -20,15 +20,6 @@ pub struct TftpEnd {
 const _: () = prove!(size_of::<TftpEnd>() == 16);
 
 impl TftpEnd {
-    fn closed() -> TftpEnd
-        ensures { result.slot.value ≡ None }
-    {
-        TftpEnd {
-            is_open: false,
-            slot: Slot::empty(),
-        }
-    }
-
     pub(crate) fn is_open(&self) -> bool
         ensures { result ≡ is_some self.now.slot.value }
     {
@@ -40,7 +31,11 @@ impl TftpEnd {
         ensures taken { option_map (λ b. b.value) result ≡ self.old.slot.value }
         ensures left { self.new.slot.value ≡ None }
     {
-        let held = mem::replace(self, TftpEnd::closed());
+        let none = TftpEnd {
+            is_open: false,
+            slot: Slot::empty(),
+        };
+        let held = mem::replace(self, none);
         if held.is_open {
             Some(held.slot.into_box(alloc))
         } else {

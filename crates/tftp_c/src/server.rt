@@ -260,8 +260,19 @@ pub extern "C" fn tftp_server_info(server: &mut TftpServer, tid: u16, info: &mut
     if !server.is_open() {
         return event::NOT_OPEN;
     }
+    let fault = info.size_fault();
+    if fault != 0 {
+        return fault;
+    }
     let held = server.slot.server();
-    informing::info_at(&held.server, tid, info)
+    let Some(state) = held.server.record(tid) else {
+        return event::NO_TRANSFER;
+    };
+    let Some(files) = held.server.files(tid) else {
+        return event::NO_TRANSFER;
+    };
+    *info = informing::agreed(&state, informing::stated_in(files));
+    0
 }
 
 /// Removes the transfer with the identifier, open or closed, and returns whether there was one.

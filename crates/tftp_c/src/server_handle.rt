@@ -20,15 +20,6 @@ pub struct TftpServer {
 const _: () = prove!(size_of::<TftpServer>() == 16);
 
 impl TftpServer {
-    fn closed() -> TftpServer
-        ensures { result.slot.value ≡ None }
-    {
-        TftpServer {
-            is_open: false,
-            slot: ServerSlot::empty(),
-        }
-    }
-
     pub(crate) fn is_open(&self) -> bool
         ensures { result ≡ is_some self.now.slot.value }
     {
@@ -40,7 +31,11 @@ impl TftpServer {
         ensures taken { option_map (λ b. b.value) result ≡ self.old.slot.value }
         ensures left { self.new.slot.value ≡ None }
     {
-        let held = mem::replace(self, TftpServer::closed());
+        let none = TftpServer {
+            is_open: false,
+            slot: ServerSlot::empty(),
+        };
+        let held = mem::replace(self, none);
         if held.is_open {
             Some(held.slot.into_box(alloc))
         } else {

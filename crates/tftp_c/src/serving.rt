@@ -2,7 +2,6 @@
 
 ghost use Rattle.std.specs.Prelude.{◌≡◌, ◌-◌, ◌*◌, ◌<◌, ◌≤◌, List, ℕ, None, length};
 ghost use Rattle.std.specs.Prelude.{IfOk, IfErr, IfSome, OnOk, length as list_length, max};
-ghost use Rattle.std.specs.Prelude.{min};
 ghost use Rattle.tftp_negotiate.specs.Ranges.{IsBlockSize};
 ghost use Rattle.tftp_wire.specs.Borrowed.{owned_request};
 ghost use Rattle.tftp_wire.specs.Spelling.{Spells};
@@ -68,37 +67,25 @@ fn valid_limits(options: &TftpOptions) -> Option<Limits>
     }
 }
 
-/// These limits, with no block that a buffer of this length has no room for behind a header, except
-/// one of the default size.
-fn within(limits: Limits, room: usize) -> Limits
-    requires { IsBlockSize limits.max_block }
-    ensures limits { result ≡ record {
-      max_block = min limits.max_block (max DEFAULT_BLOCK (room - HEADER));
-      max_file = limits.max_file;
-    } }
-    ensures sized { IsBlockSize result.max_block }
-{
-    let most = room.saturating_sub(HEADER).max(usize::from(DEFAULT_BLOCK));
-    if usize::from(limits.max_block) <= most {
-        return limits;
-    }
-    Limits {
-        max_block: most as u16,
-        max_file: limits.max_file,
-    }
-}
-
 /// The limits of a read, whose buffer for a datagram has this length, or `None` if the largest block
-/// size is none.
+/// size is none. No block is longer than the buffer has room for behind a header, except one of the
+/// default size.
 fn read_limits(options: &TftpOptions, room: usize) -> Option<Limits>
     ensures some { IfSome result (λ l. (l ≡ read_limits options.now room)
         × IsBlockSize l.max_block × LimitsBlocks options.now) }
     ensures none { result ≡ None → LimitsBlocks options.now → ⊥ }
 {
-    match valid_limits(options) {
-        Some(limits) => Some(within(limits, room)),
-        None => None,
+    let Some(limits) = valid_limits(options) else {
+        return None;
+    };
+    let most = room.saturating_sub(HEADER).max(usize::from(DEFAULT_BLOCK));
+    if usize::from(limits.max_block) <= most {
+        return Some(limits);
     }
+    Some(Limits {
+        max_block: most as u16,
+        max_file: limits.max_file,
+    })
 }
 
 /// The read request that a datagram spells, if it spells one.
