@@ -4,6 +4,7 @@ use Rattle.std.specs.Prelude.{Result, Ok, Err}
 use Rattle.std.specs.Prelude.{IsSome}
 use Rattle.tftp_wire.specs.Spelling.{Spells, canonical}
 use Rattle.tftp_wire.specs.declared.limits.TheConstants.{HEADER}
+use Rattle.tftp_wire.specs.declared.packet.Packet.{Packet}
 use Rattle.tftp_wire.specs.declared.packet.Packet.TheVariants.{Read, Write}
 use Rattle.tftp_wire.specs.declared.packet.Request.{Request}
 use Rattle.tftp_negotiate.specs.Agreed.{size}
@@ -115,12 +116,14 @@ SendRefused agreed whole next SourceFault =
     (whole < 65535 * size agreed) × (agreed ≡ []) × CannotStart memory_source whole next
 SendRefused agreed whole next Memory = whole < 65535 * size agreed
 
--- the datagram spells no read request, or no write request
-abbrev pub NoRead : List ℕ → Type 0
-NoRead datagram = (request : Request) → Spells (Read request) datagram → ⊥
+-- a request of this kind, as a packet
+abbrev pub packet_of : Kind → Request → Packet
+packet_of kinds.Read request = Read request
+packet_of kinds.Write request = Write request
 
-abbrev pub NoWrite : List ℕ → Type 0
-NoWrite datagram = (request : Request) → Spells (Write request) datagram → ⊥
+-- the datagram spells no request of this kind
+abbrev pub NoRequest : Kind → List ℕ → Type 0
+NoRequest kind datagram = (request : Request) → Spells (packet_of kind request) datagram → ⊥
 
 -- the number of a refusal: a length above the server's limit (13) is answered by another ERROR than
 -- the others (7)
@@ -204,7 +207,7 @@ pub record PutHasNoReply (datagram : List ℕ) (options : TftpOptions) (room : �
 abbrev pub GetUnserved : List ℕ → ℕ → List ℕ → TftpOptions → ℕ → ℕ → Type 0
 GetUnserved datagram whole next options room returned =
     ((returned ≡ 2) × (LimitsBlocks options → ⊥))
-    ⊎ ((returned ≡ 2) × NoRead datagram)
+    ⊎ ((returned ≡ 2) × NoRequest kinds.Read datagram)
     ⊎ GetOptionsRefused datagram whole options room returned
     ⊎ GetUnopened datagram whole next options room returned
     ⊎ ((returned ≡ 12) × GetHasNoReply datagram whole next options room)
@@ -213,7 +216,7 @@ GetUnserved datagram whole next options room returned =
 abbrev pub PutUnopened : List ℕ → TftpOptions → ℕ → Type 0
 PutUnopened datagram options returned =
     ((returned ≡ 2) × (LimitsBlocks options → ⊥))
-    ⊎ ((returned ≡ 2) × NoWrite datagram)
+    ⊎ ((returned ≡ 2) × NoRequest kinds.Write datagram)
     ⊎ PutOptionsRefused datagram options returned
     ⊎ ((returned ≡ 3) × PutAnswered datagram options)
 

@@ -20,7 +20,7 @@ use crate::opening::fits;
 use crate::report::{endpoint, opening_step};
 use crate::server_handle::TftpServer;
 use crate::serving::{Served, limits, serve_get, serve_put};
-use crate::stated::stated_by;
+use crate::stated::stated_length;
 use crate::transfers::report_at;
 use std::alloc::Global;
 use tftp_ends::{Backoff, End, Outgoing};
@@ -98,7 +98,7 @@ fn absent_files(end: &End) -> Files<Absent, Absent>
     ensures files { AreFilesOf end.now.role.side result }
     ensures stated { StatedBy end.now.position.last_sent (stated_in_files result) }
 {
-    let stated = stated_by(end.bytes_of(Outgoing::LastSent));
+    let stated = stated_length(end.bytes_of(Outgoing::LastSent));
     if end.record().side.is_sender() {
         Files::Source(Absent { stated })
     } else {

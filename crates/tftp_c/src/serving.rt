@@ -9,7 +9,7 @@ ghost use Rattle.tftp_wire.specs.declared.packet.Packet.TheVariants.{Read, Write
 ghost use Rattle.tftp_file.specs.Memory.{memory_source};
 ghost use Rattle.tftp_negotiate.specs.Agreed.{size};
 ghost use Rattle.tftp_ends.specs.Opening.{ServesRead};
-ghost use Rattle.tftp_c.specs.Faults.{GetUnserved, NoRead, NoWrite, PutUnopened, SendRefused};
+ghost use Rattle.tftp_c.specs.Faults.{GetUnserved, NoRequest, packet_of, PutUnopened, SendRefused};
 ghost use Rattle.tftp_c.specs.Faults.{ServeGetFault, ServePutFault};
 ghost use Rattle.tftp_c.specs.Options.{HasSize, options_in};
 ghost use Rattle.tftp_c.specs.Waits.{backoff_of};
@@ -26,7 +26,7 @@ use crate::handle::TftpEnd;
 use crate::opening::{open, open_fault};
 use crate::report::endpoint;
 use crate::slice_source::SliceSource;
-use crate::stated::stated_by;
+use crate::stated::stated_length;
 use std::alloc::Global;
 use tftp_ends::{End, OpenFault, Outgoing, ReadService};
 use tftp_negotiate::{Agreed, DEFAULT_BLOCK, Kind, Limits, is_block_size};
@@ -88,30 +88,20 @@ fn read_limits(options: &TftpOptions, room: usize) -> Option<Limits>
     })
 }
 
-/// The read request that a datagram spells, if it spells one.
-fn read_in(datagram: &[u8]) -> Option<RequestRef<'_>>
-    ensures some { IfSome result (λ r. Spells (Read (owned_request r)) datagram.now) }
-    ensures none { result ≡ None → NoRead datagram.now }
+/// The request of this kind that a datagram spells, if it spells one.
+fn request_in(datagram: &[u8], kind: Kind) -> Option<RequestRef<'_>>
+    ensures some { IfSome result (λ r. Spells (packet_of kind (owned_request r)) datagram.now) }
+    ensures none { result ≡ None → NoRequest kind datagram.now }
 {
     match decode_ref(datagram) {
-        Ok(PacketRef::Read(request)) => Some(request),
-        Ok(PacketRef::Write(_)) => None,
-        Ok(PacketRef::Data { .. }) => None,
-        Ok(PacketRef::Ack { .. }) => None,
-        Ok(PacketRef::Error { .. }) => None,
-        Ok(PacketRef::Oack(_)) => None,
-        Err(_) => None,
-    }
-}
-
-/// The write request that a datagram spells, if it spells one.
-fn write_in(datagram: &[u8]) -> Option<RequestRef<'_>>
-    ensures some { IfSome result (λ r. Spells (Write (owned_request r)) datagram.now) }
-    ensures none { result ≡ None → NoWrite datagram.now }
-{
-    match decode_ref(datagram) {
-        Ok(PacketRef::Write(request)) => Some(request),
-        Ok(PacketRef::Read(_)) => None,
+        Ok(PacketRef::Read(request)) => match kind {
+            Kind::Read => Some(request),
+            Kind::Write => None,
+        },
+        Ok(PacketRef::Write(request)) => match kind {
+            Kind::Read => None,
+            Kind::Write => Some(request),
+        },
         Ok(PacketRef::Data { .. }) => None,
         Ok(PacketRef::Ack { .. }) => None,
         Ok(PacketRef::Error { .. }) => None,
@@ -151,7 +141,7 @@ fn client_of(end: End, options: &TftpOptions) -> Client
     ensures stated { KnowsFirst result }
     ensures backoff { result.backoff ≡ backoff_of options.now }
 {
-    let stated = stated_by(end.bytes_of(Outgoing::LastSent));
+    let stated = stated_length(end.bytes_of(Outgoing::LastSent));
     Client {
         end,
         stated,
@@ -176,7 +166,7 @@ pub(crate) fn serve_get(
     let Some(limits) = read_limits(options, room) else {
         return Err(event::BAD_REQUEST);
     };
-    match read_in(request) {
+    match request_in(request, Kind::Read) {
         Some(asked) => {
             let mode = asked.mode;
             match answer(alloc, options, &asked, Kind::Read, length, &limits) {
@@ -215,7 +205,7 @@ pub(crate) fn serve_put(
     let Some(limits) = valid_limits(options) else {
         return Err(event::BAD_REQUEST);
     };
-    match write_in(request) {
+    match request_in(request, Kind::Write) {
         Some(asked) => {
             let mode = asked.mode;
             match answer(alloc, options, &asked, Kind::Write, 0, &limits) {

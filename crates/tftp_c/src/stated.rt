@@ -1,7 +1,7 @@
 //! The length of the file that a packet states, for C.
 
-ghost use Rattle.std.specs.Prelude.{◌≡◌, IfSome, None};
-ghost use Rattle.tftp_c.specs.Stated.{Learns, StatedBy, States, StatesNone};
+ghost use Rattle.std.specs.Prelude.{None};
+ghost use Rattle.tftp_c.specs.Stated.{Learns, StatedBy};
 
 use tftp_ends::Endpoint;
 use tftp_negotiate::stated_tsize;
@@ -10,8 +10,7 @@ use tftp_wire::{PacketRef, decode_ref};
 /// The length of the file that the packet which a datagram spells states by its option `tsize`, in
 /// bytes of wire text (RFC 2349, "Transfer Size Option Specification").
 pub(crate) fn stated_length(datagram: &[u8]) -> Option<u64>
-    ensures some { IfSome result (States datagram.now) }
-    ensures none { result ≡ None → StatesNone datagram.now }
+    ensures { StatedBy datagram.now result }
 {
     match decode_ref(datagram) {
         Ok(PacketRef::Read(it)) => stated_tsize(&it.options),
@@ -22,13 +21,6 @@ pub(crate) fn stated_length(datagram: &[u8]) -> Option<u64>
         Ok(PacketRef::Error { .. }) => None,
         Err(_) => None,
     }
-}
-
-/// The same, in one clause.
-pub(crate) fn stated_by(datagram: &[u8]) -> Option<u64>
-    ensures { StatedBy datagram.now result }
-{
-    stated_length(datagram)
 }
 
 /// The length that an end knows after a datagram, by its peer before and after it.
@@ -43,7 +35,7 @@ pub(crate) fn stated_after(
     match before {
         Some(_) => known,
         None => match after {
-            Some(_) => stated_by(datagram),
+            Some(_) => stated_length(datagram),
             None => known,
         },
     }

@@ -15,11 +15,11 @@ returns-in-Err-clause-err c =
     (inr
     (inl
     (record {
-      request = owned_request c.in-Some-read_in.asked;
-      asked = c.in-Some-read_in.ensures.some;
+      request = owned_request c.in-Some-request_in.asked;
+      asked = c.in-Some-request_in.ensures.some;
       why =
           subst
-          (λ (l : Limits). AnswerRefused c.args.options.now (owned_request c.in-Some-read_in.asked) kinds.Read
+          (λ (l : Limits). AnswerRefused c.args.options.now (owned_request c.in-Some-request_in.asked) kinds.Read
           c.args.length l c.in-Err.fault)
           c.in-Some.ensures.some.0
           c.in-Err.ensures.err;
