@@ -1,6 +1,6 @@
 -- The options of a packet, for C: by their index and by name.
 use Rattle.std.specs.Prelude.{ℕ, ◌≡◌, ◌==◌, ◌-◌, Bool, if◌then◌else◌, List, [], ◌∷◌, Option}
-use Rattle.std.specs.Prelude.{Some, None, length, take, bytes_eq}
+use Rattle.std.specs.Prelude.{Some, None, IsSome, length, take, bytes_eq}
 use Rattle.std.specs.Str.{str_to_ascii_lowercase}
 use Rattle.tftp_wire.specs.Options.{option_bytes}
 use Rattle.tftp_wire.specs.Spelling.{Spells}
@@ -16,6 +16,11 @@ options_of (Data block piece) = None
 options_of (Ack block) = None
 options_of (Error code text) = None
 options_of (Oack options) = Some options
+
+-- these are the options of the packet that a datagram spells, if it spells one that may have some
+pub record Lists (datagram : List ℕ) (found : Option (List RawOption)) : Type 0 where
+  pub spelled : IsSome found → (packet : Packet) × Spells packet datagram
+  pub only : (packet : Packet) → Spells packet datagram → options_of packet ≡ found
 
 -- the option at this index
 abbrev pub option_at : ℕ → List RawOption → Option RawOption

@@ -3,24 +3,34 @@
 ghost use Rattle.std.specs.Prelude.{◌≡◌, option_map, length, take};
 ghost use Rattle.tftp_wire.specs.Borrowed.{owned, owned_option};
 ghost use Rattle.tftp_wire.specs.Options.{option_bytes};
-ghost use Rattle.tftp_c.specs.Listed.{options_of, option_at, is_named, option_named};
+ghost use Rattle.tftp_c.specs.Listed.{options_of, option_at, is_named, option_named, Lists};
 ghost use Rattle.tftp_c.specs.Listed.{WritesOption};
 
 use crate::error::copy_whole;
 use std::alloc::Global;
-use tftp_wire::{OptionRef, OptionsIter, PacketRef, append_option, decode_ref};
+use tftp_wire::{OptionRef, OptionsIter, OptionsRef, PacketRef, append_option, decode_ref};
 
 /// The options of a packet that may have some.
-fn options_of<'a>(packet: &PacketRef<'a>) -> Option<OptionsIter<'a>>
-    ensures { option_map (λ o. o) result ≡ options_of (owned packet.now) }
+fn options_of(packet: PacketRef<'_>) -> Option<OptionsRef<'_>>
+    ensures { option_map (λ o. o) result ≡ options_of (owned packet.entry) }
 {
     match packet {
-        PacketRef::Read(it) => Some(it.options.iter()),
-        PacketRef::Write(it) => Some(it.options.iter()),
-        PacketRef::Oack(options) => Some(options.iter()),
+        PacketRef::Read(it) => Some(it.options),
+        PacketRef::Write(it) => Some(it.options),
+        PacketRef::Oack(options) => Some(options),
         PacketRef::Data { .. } => None,
         PacketRef::Ack { .. } => None,
         PacketRef::Error { .. } => None,
+    }
+}
+
+/// The options of the packet that a datagram spells, if it spells one that may have some.
+pub(crate) fn listed_in(datagram: &[u8]) -> Option<OptionsRef<'_>>
+    ensures { Lists datagram.now (option_map (λ o. o) result) }
+{
+    match decode_ref(datagram) {
+        Ok(packet) => options_of(packet),
+        Err(_) => None,
     }
 }
 
@@ -82,15 +92,12 @@ pub extern "C" fn tftp_option(
 ) -> usize
     ensures { (result ≡ 0 → ⊥) → WritesOption (option_at index) datagram.now text.new result }
 {
-    match decode_ref(datagram) {
-        Ok(packet) => match options_of(&packet) {
-            Some(options) => match option_at(options, index) {
-                Some(option) => write(alloc, option, text),
-                None => 0,
-            },
+    match listed_in(datagram) {
+        Some(options) => match option_at(options.iter(), index) {
+            Some(option) => write(alloc, option, text),
             None => 0,
         },
-        Err(_) => 0,
+        None => 0,
     }
 }
 
@@ -104,14 +111,11 @@ pub extern "C" fn tftp_find_option(
 ) -> usize
     ensures { (result ≡ 0 → ⊥) → WritesOption (option_named name.now) datagram.now text.new result }
 {
-    match decode_ref(datagram) {
-        Ok(packet) => match options_of(&packet) {
-            Some(options) => match option_named(options, name) {
-                Some(option) => write(alloc, option, text),
-                None => 0,
-            },
+    match listed_in(datagram) {
+        Some(options) => match option_named(options.iter(), name) {
+            Some(option) => write(alloc, option, text),
             None => 0,
         },
-        Err(_) => 0,
+        None => 0,
     }
 }

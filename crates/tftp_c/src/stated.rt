@@ -3,23 +3,18 @@
 ghost use Rattle.std.specs.Prelude.{None};
 ghost use Rattle.tftp_c.specs.Stated.{Learns, StatedBy};
 
+use crate::options::listed_in;
 use tftp_ends::Endpoint;
 use tftp_negotiate::stated_tsize;
-use tftp_wire::{PacketRef, decode_ref};
 
 /// The length of the file that the packet which a datagram spells states by its option `tsize`, in
 /// bytes of wire text (RFC 2349, "Transfer Size Option Specification").
 pub(crate) fn stated_length(datagram: &[u8]) -> Option<u64>
     ensures { StatedBy datagram.now result }
 {
-    match decode_ref(datagram) {
-        Ok(PacketRef::Read(it)) => stated_tsize(&it.options),
-        Ok(PacketRef::Write(it)) => stated_tsize(&it.options),
-        Ok(PacketRef::Oack(options)) => stated_tsize(&options),
-        Ok(PacketRef::Data { .. }) => None,
-        Ok(PacketRef::Ack { .. }) => None,
-        Ok(PacketRef::Error { .. }) => None,
-        Err(_) => None,
+    match listed_in(datagram) {
+        Some(options) => stated_tsize(&options),
+        None => None,
     }
 }
 

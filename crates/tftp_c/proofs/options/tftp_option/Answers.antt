@@ -1,5 +1,4 @@
 -- The option that was found is written.
-use Rattle.tftp_c.proofs.Common.{owned}
 use Rattle.tftp_wire.specs.Borrowed.{owned_option}
 use Rattle.tftp_c.specs.Listed.{option_at}
 use Rattle.tftp_c.proofs.ListedLemmas.{writes_option}
@@ -8,11 +7,9 @@ use Rattle.tftp_c.proofs.options.tftp_option.Goals as goal
 pub returns-in-Some-option_at : goal.returns-in-Some-option_at
 returns-in-Some-option_at c = λ some.
     writes_option (option_at c.args.index) c.args.datagram.now c.write.new.text c.write.result
-    (owned c.in-Ok.packet)
-    c.in-Some.options
+    c.iter.result
     (owned_option c.in-Some-option_at.option)
-    c.in-Ok.ensures.found
-    c.in-Some.ensures
+    (search (c.in-Some.ensures, c.iter.ensures))
     c.in-Some-option_at.ensures
     (c.write.ensures.len some)
     (c.write.ensures.written some)
