@@ -11,12 +11,14 @@ ghost use Rattle.tftp_c.specs.Informed.{InformsAt, InfoFaultAt};
 ghost use Rattle.tftp_c.specs.Waits.{backoff_of, WaitsAt};
 
 use crate::event::{self, TftpEndpoint, TftpEvent, TftpInfo, TftpQuestion};
+use crate::report::endpoint;
 use crate::server_handle::TftpServer;
 use crate::{aborting, asking, holding, informing, transfers};
 use std::alloc::Global;
 
 /// Reads a datagram at the request port: the path of the file that it asks for is written to
-/// `name`, or the ERROR that answers it to `reply`.
+/// `name`, or the ERROR that answers it to `reply`. One from port 0 is ignored, since no answer can
+/// come to it.
 #[unsafe(no_mangle)]
 pub extern "C" fn tftp_server_request(
     alloc: Global,
@@ -37,8 +39,21 @@ pub extern "C" fn tftp_server_request(
     if !server.is_open() {
         return event::NOT_OPEN;
     }
+    if from.port == 0 {
+        *question = asking::answered(0);
+        return 0;
+    }
     let held = server.slot.server();
-    asking::request(alloc, &held.server, from, datagram, name, reply, question)
+    let Ok(admission) = held.server.admit(endpoint(from), datagram) else {
+        return event::MEMORY;
+    };
+    match asking::question_of(alloc, &admission, name, reply) {
+        Some(asked) => {
+            *question = asked;
+            0
+        }
+        None => event::MEMORY,
+    }
 }
 
 /// Opens a transfer for a read request: the file has `length` bytes, of which `next` are the first.
