@@ -13,6 +13,8 @@ ghost use Rattle.tftp_c.specs.Waits.{backoff_of, WaitsAt};
 use crate::event::{self, TftpEndpoint, TftpEvent, TftpInfo, TftpQuestion};
 use crate::report::endpoint;
 use crate::server_handle::TftpServer;
+use crate::slice_sink::SliceSink;
+use crate::slice_source::SliceSource;
 use crate::{aborting, asking, holding, informing, transfers};
 use std::alloc::Global;
 
@@ -149,16 +151,31 @@ pub extern "C" fn tftp_server_receive(
     }
     let held = server.slot.server();
     let backoff = held.options.backoff();
-    transfers::receive(
-        &mut held.server,
-        tid,
-        backoff,
-        from,
-        datagram,
-        file,
-        reply,
-        event,
-    )
+    let mut sink = SliceSink {
+        room: file,
+        used: 0,
+        is_committed: false,
+    };
+    match held
+        .server
+        .lend_sink(tid, &mut sink, endpoint(from), datagram)
+    {
+        Ok((step, outgoing)) => {
+            let count = sink.count();
+            transfers::report_at(
+                &held.server,
+                tid,
+                backoff,
+                step,
+                outgoing,
+                reply,
+                count,
+                event,
+            );
+            0
+        }
+        Err(fault) => holding::table_fault(fault),
+    }
 }
 
 /// Handles a datagram at the transfer with the identifier, as `tftp_send`.
@@ -190,16 +207,27 @@ pub extern "C" fn tftp_server_send(
     }
     let held = server.slot.server();
     let backoff = held.options.backoff();
-    transfers::send(
-        &mut held.server,
-        tid,
-        backoff,
-        from,
-        datagram,
-        next,
-        reply,
-        event,
-    )
+    let mut source = SliceSource::of(next);
+    match held
+        .server
+        .lend_source(tid, &mut source, endpoint(from), datagram)
+    {
+        Ok((step, outgoing)) => {
+            let count = source.taken_of(next);
+            transfers::report_at(
+                &held.server,
+                tid,
+                backoff,
+                step,
+                outgoing,
+                reply,
+                count,
+                event,
+            );
+            0
+        }
+        Err(fault) => holding::table_fault(fault),
+    }
 }
 
 /// Delivers a timeout to the transfer with the identifier, as `tftp_timeout`.
@@ -228,7 +256,13 @@ pub extern "C" fn tftp_server_timeout(
     }
     let held = server.slot.server();
     let backoff = held.options.backoff();
-    transfers::time_out(&mut held.server, tid, backoff, reply, event)
+    match held.server.handle_timeout(tid) {
+        Ok((step, outgoing)) => {
+            transfers::report_at(&held.server, tid, backoff, step, outgoing, reply, 0, event);
+            0
+        }
+        Err(fault) => holding::table_fault(fault),
+    }
 }
 
 /// Ends the transfer with the identifier by an ERROR, as `tftp_abort`, and removes it.
