@@ -1,16 +1,14 @@
 //! A transfer that its caller ends by an ERROR.
 
 ghost use Rattle.std.specs.Prelude.{◌≡◌, ◌≤◌, IfErr, None, OnErr, OnOk, length};
-ghost use Rattle.tftp_c.specs.Aborted.{AbortFails, AbortsOpen, AbortsAt, AtFault};
+ghost use Rattle.tftp_c.specs.Aborted.{AbortFails, AbortsOpen};
 ghost use Rattle.tftp_c.specs.Aborted.{abort_number};
 
-use crate::elsewhere::Elsewhere;
 use crate::error::{error_packet, may_tell};
 use crate::event::{self, TftpEvent};
 use crate::report::report_apart;
 use std::alloc::Global;
 use tftp_ends::{Record, Step};
-use tftp_server::Server;
 
 /// Why a transfer is not aborted.
 #[derive(Clone, Copy)]
@@ -68,34 +66,5 @@ pub(crate) fn abort(
             Ok(())
         }
         None => Err(AbortFault::Memory),
-    }
-}
-
-/// Aborts the transfer of this number, and removes it.
-pub(crate) fn abort_at(
-    alloc: Global,
-    server: &mut Server<Elsewhere>,
-    tid: u16,
-    code: u16,
-    text: &[u8],
-    reply: &mut [u8],
-    event: &mut TftpEvent,
-) -> u8
-    ensures ok { result ≡ 0
-        → AbortsAt tid code text.now reply.new event.new server.old server.new }
-    ensures fits { result ≡ 0 → event.new.send_len ≤ length reply.old }
-    ensures fault { (result ≡ 0 → ⊥) → AtFault tid text.now server.old result }
-    ensures err { (result ≡ 0 → ⊥) → server.new ≡ server.old }
-    ensures unmoved { (result ≡ 0 → ⊥) → (event.new ≡ event.old) × (reply.new ≡ reply.old) }
-{
-    let Some(state) = server.record(tid) else {
-        return event::NO_TRANSFER;
-    };
-    match abort(alloc, &state, code, text, reply, event) {
-        Ok(()) => {
-            server.give_up(tid);
-            0
-        }
-        Err(fault) => abort_number(fault, event::NO_TRANSFER),
     }
 }

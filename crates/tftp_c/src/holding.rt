@@ -3,8 +3,8 @@
 ghost use Rattle.std.specs.Prelude.{◌≡◌, ◌⊎◌, ◌≤◌, None, length as list_length};
 ghost use Rattle.tftp_ends.specs.Files.{AreFilesOf};
 ghost use Rattle.tftp_server.specs.Config.{IsConfig};
-ghost use Rattle.tftp_c.specs.Faults.{FirstTooLong, GetFails, PutFails, ReturnsHeld, StartRefused};
-ghost use Rattle.tftp_c.specs.HeldServer.{config_of, table_fault, HoldsServer, OpensAt, OpensGet, OpensPut};
+ghost use Rattle.tftp_c.specs.Faults.{FirstTooLong, ReturnsHeld, StartRefused};
+ghost use Rattle.tftp_c.specs.HeldServer.{config_of, table_fault, HoldsServer, OpensAt};
 ghost use Rattle.tftp_c.specs.HeldServer.{Starts};
 ghost use Rattle.tftp_c.specs.Elsewhere.{stated_in_files};
 ghost use Rattle.tftp_c.specs.Opens.{FirstSent};
@@ -19,7 +19,7 @@ use crate::held_server::HeldServer;
 use crate::opening::fits;
 use crate::report::{endpoint, opening_step};
 use crate::server_handle::TftpServer;
-use crate::serving::{Served, limits, serve_get, serve_put};
+use crate::serving::limits;
 use crate::stated::stated_length;
 use crate::transfers::report_at;
 use std::alloc::Global;
@@ -130,7 +130,7 @@ fn hold(
 }
 
 /// Holds the end that has opened for a request, and only then reports its opening.
-fn open(
+pub(crate) fn open(
     server: &mut Server<Elsewhere>,
     tid: u16,
     from: &TftpEndpoint,
@@ -169,69 +169,4 @@ fn open(
         );
     }
     fault
-}
-
-/// Opens a transfer that sends the file of a read request, whose first bytes are `next`.
-pub(crate) fn get(
-    alloc: Global,
-    served: &mut HeldServer,
-    tid: u16,
-    from: &TftpEndpoint,
-    request: &[u8],
-    length: u64,
-    next: &[u8],
-    reply: &mut [u8],
-    event: &mut TftpEvent,
-) -> u8
-    ensures ok { result ≡ 0 → OpensGet tid from.now request.now length next.now served.old.options
-        reply.new event.new served.old.server served.new.server }
-    ensures fault { (result ≡ 0 → ⊥) → GetFails tid from.now request.now length next.now
-        served.old.options served.old.server (list_length reply.old) result }
-    ensures fits { result ≡ 0 → event.new.send_len ≤ list_length reply.old }
-    ensures options { served.new.options ≡ served.old.options }
-    ensures err { (result ≡ 0 → ⊥) → served.new ≡ served.old }
-    ensures unmoved { (result ≡ 0 → ⊥) → (event.new ≡ event.old) × (reply.new ≡ reply.old) }
-{
-    let room = reply.len();
-    match serve_get(alloc, from, request, length, next, &served.options, room) {
-        Ok(opened) => {
-            let Served { end, count } = opened;
-            open(
-                &mut served.server,
-                tid,
-                from,
-                request,
-                end,
-                count,
-                reply,
-                event,
-            )
-        }
-        Err(fault) => fault,
-    }
-}
-
-/// Opens a transfer that receives the file of a write request.
-pub(crate) fn put(
-    alloc: Global,
-    served: &mut HeldServer,
-    tid: u16,
-    from: &TftpEndpoint,
-    request: &[u8],
-    reply: &mut [u8],
-    event: &mut TftpEvent,
-) -> u8
-    ensures ok { result ≡ 0 → OpensPut tid from.now request.now served.old.options reply.new
-        event.new served.old.server served.new.server }
-    ensures fault { (result ≡ 0 → ⊥) → PutFails tid from.now request.now served.old.options
-        served.old.server (list_length reply.old) result }
-    ensures fits { result ≡ 0 → event.new.send_len ≤ list_length reply.old }
-    ensures options { served.new.options ≡ served.old.options }
-    ensures err { (result ≡ 0 → ⊥) → served.new ≡ served.old }
-    ensures unmoved { (result ≡ 0 → ⊥) → (event.new ≡ event.old) × (reply.new ≡ reply.old) }
-{
-    match serve_put(alloc, from, request, &served.options) {
-        Ok(end) => open(&mut served.server, tid, from, request, end, 0, reply, event),
-        Err(fault) => fault,
-    }
 }

@@ -13,6 +13,7 @@ ghost use Rattle.tftp_c.specs.Waits.{backoff_of, WaitsAt};
 use crate::event::{self, TftpEndpoint, TftpEvent, TftpInfo, TftpQuestion};
 use crate::report::endpoint;
 use crate::server_handle::TftpServer;
+use crate::serving::{Served, serve_get, serve_put};
 use crate::slice_sink::SliceSink;
 use crate::slice_source::SliceSource;
 use crate::{aborting, asking, holding, informing, transfers};
@@ -88,7 +89,29 @@ pub extern "C" fn tftp_server_get(
         return event::NOT_OPEN;
     }
     let held = server.slot.server();
-    holding::get(alloc, held, tid, from, request, length, next, reply, event)
+    match serve_get(
+        alloc,
+        from,
+        request,
+        length,
+        next,
+        &held.options,
+        reply.len(),
+    ) {
+        Ok(Served { end, count }) => {
+            holding::open(
+                &mut held.server,
+                tid,
+                from,
+                request,
+                end,
+                count,
+                reply,
+                event,
+            )
+        }
+        Err(fault) => fault,
+    }
 }
 
 /// Opens a transfer for a write request.
@@ -118,7 +141,10 @@ pub extern "C" fn tftp_server_put(
         return event::NOT_OPEN;
     }
     let held = server.slot.server();
-    holding::put(alloc, held, tid, from, request, reply, event)
+    match serve_put(alloc, from, request, &held.options) {
+        Ok(end) => holding::open(&mut held.server, tid, from, request, end, 0, reply, event),
+        Err(fault) => fault,
+    }
 }
 
 /// Handles a datagram at the transfer with the identifier, as `tftp_receive`.
@@ -291,7 +317,16 @@ pub extern "C" fn tftp_server_abort(
         return event::NOT_OPEN;
     }
     let held = server.slot.server();
-    aborting::abort_at(alloc, &mut held.server, tid, code, text, reply, event)
+    let Some(state) = held.server.record(tid) else {
+        return event::NO_TRANSFER;
+    };
+    match aborting::abort(alloc, &state, code, text, reply, event) {
+        Ok(()) => {
+            held.server.give_up(tid);
+            0
+        }
+        Err(fault) => aborting::abort_number(fault, event::NO_TRANSFER),
+    }
 }
 
 /// Reports what the transfer with the identifier and its peer have agreed. After a fault `info` is
