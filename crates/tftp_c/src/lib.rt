@@ -35,102 +35,19 @@ mod stepping;
 mod transfers;
 mod wire_text;
 
-ghost use Rattle.std.specs.Prelude.{◌≡◌, ◌⊎◌, ◌-◌, ◌≤◌, Some, None, length};
+ghost use Rattle.std.specs.Prelude.{◌≡◌, ◌⊎◌, ◌≤◌, Some, None, length};
 ghost use Rattle.std.specs.Prelude.{true, false, length as list_length};
 ghost use Rattle.tftp_c.specs.Aborted.{AbortRefused, AbortsOpen, OnRecord};
-ghost use Rattle.tftp_c.specs.Handled.{HoldsClient, OnClient, OnEnd, Received, Sent, TimedOut};
+ghost use Rattle.tftp_c.specs.Handled.{HoldsClient};
 ghost use Rattle.tftp_c.specs.Informed.{InfoFault, Informs};
-ghost use Rattle.tftp_c.specs.Stated.{LearnsFrom, States, StatesNone};
-ghost use Rattle.tftp_c.specs.Waits.{Waits};
+ghost use Rattle.tftp_c.specs.Stated.{States, StatesNone};
 
-use crate::event::{TftpEndpoint, TftpEvent, TftpInfo};
+use crate::event::{TftpEvent, TftpInfo};
 use crate::handle::TftpEnd;
 use std::alloc::Global;
 
 /// 0.1.0, as `TFTP_VERSION` of `tftp.h`.
 const VERSION: u32 = 0x00_01_00;
-
-/// Handles a datagram at a receiver: the bytes of the file that it brings are written to `file`,
-/// and the datagram to send to `reply`.
-#[unsafe(no_mangle)]
-pub extern "C" fn tftp_receive(
-    end: &mut TftpEnd,
-    from: &TftpEndpoint,
-    datagram: &[u8],
-    file: &mut [u8],
-    reply: &mut [u8],
-    event: &mut TftpEvent,
-) -> u8
-    ensures ok { OnEnd end.old.slot.value end.new.slot.value (λ before e. result ≡ 0
-        → Received from.now datagram.now before e file.old file.new reply.new event.new) }
-    ensures learns { OnClient end.old.slot.value end.new.slot.value (λ c d. result ≡ 0
-        → LearnsFrom datagram.now c d) }
-    ensures waits { OnClient end.old.slot.value end.new.slot.value (λ c d. result ≡ 0
-        → Waits c.backoff d.end event.new) }
-    ensures backoff { OnClient end.old.slot.value end.new.slot.value (λ c d.
-        d.backoff ≡ c.backoff) }
-    ensures fits { result ≡ 0 → event.new.send_len ≤ list_length reply.old }
-    ensures err { (result ≡ 0 → ⊥) → end.new.slot.value ≡ end.old.slot.value }
-    ensures unmoved { (result ≡ 0 → ⊥) → event.new ≡ event.old }
-    ensures none { end.old.slot.value ≡ None → result ≡ 1 }
-{
-    if !end.is_open() {
-        return event::NOT_OPEN;
-    }
-    stepping::receive(end.slot.client(), from, datagram, file, reply, event)
-}
-
-/// Handles a datagram at a sender: it takes what it sends from the start of `next`, the next bytes
-/// of the file, and writes the datagram to send to `reply`.
-#[unsafe(no_mangle)]
-pub extern "C" fn tftp_send(
-    end: &mut TftpEnd,
-    from: &TftpEndpoint,
-    datagram: &[u8],
-    next: &[u8],
-    reply: &mut [u8],
-    event: &mut TftpEvent,
-) -> u8
-    ensures ok { OnEnd end.old.slot.value end.new.slot.value (λ before e. result ≡ 0
-        → Sent from.now datagram.now before e next.now reply.new event.new) }
-    ensures learns { OnClient end.old.slot.value end.new.slot.value (λ c d. result ≡ 0
-        → LearnsFrom datagram.now c d) }
-    ensures waits { OnClient end.old.slot.value end.new.slot.value (λ c d. result ≡ 0
-        → Waits c.backoff d.end event.new) }
-    ensures backoff { OnClient end.old.slot.value end.new.slot.value (λ c d.
-        d.backoff ≡ c.backoff) }
-    ensures fits { result ≡ 0 → event.new.send_len ≤ list_length reply.old }
-    ensures err { (result ≡ 0 → ⊥) → end.new.slot.value ≡ end.old.slot.value }
-    ensures unmoved { (result ≡ 0 → ⊥) → event.new ≡ event.old }
-    ensures none { end.old.slot.value ≡ None → result ≡ 1 }
-{
-    if !end.is_open() {
-        return event::NOT_OPEN;
-    }
-    stepping::send(end.slot.client(), from, datagram, next, reply, event)
-}
-
-/// Delivers a timeout.
-#[unsafe(no_mangle)]
-pub extern "C" fn tftp_timeout(end: &mut TftpEnd, reply: &mut [u8], event: &mut TftpEvent) -> u8
-    ensures ok { OnEnd end.old.slot.value end.new.slot.value (λ before e. result ≡ 0
-        → TimedOut before e reply.new event.new) }
-    ensures stated { OnClient end.old.slot.value end.new.slot.value (λ c d.
-        d.stated ≡ c.stated) }
-    ensures waits { OnClient end.old.slot.value end.new.slot.value (λ c d. result ≡ 0
-        → Waits c.backoff d.end event.new) }
-    ensures backoff { OnClient end.old.slot.value end.new.slot.value (λ c d.
-        d.backoff ≡ c.backoff) }
-    ensures fits { result ≡ 0 → event.new.send_len ≤ list_length reply.old }
-    ensures err { (result ≡ 0 → ⊥) → end.new.slot.value ≡ end.old.slot.value }
-    ensures unmoved { (result ≡ 0 → ⊥) → event.new ≡ event.old }
-    ensures none { end.old.slot.value ≡ None → result ≡ 1 }
-{
-    if !end.is_open() {
-        return event::NOT_OPEN;
-    }
-    stepping::time_out(end.slot.client(), reply, event)
-}
 
 /// Ends the transfer by an ERROR, which is written to `reply` for the peer, and closes the end.
 ///

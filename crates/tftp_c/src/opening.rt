@@ -130,8 +130,8 @@ pub(crate) fn open(
     }
 }
 
-/// Opens a client that gets a file, by the bytes of its options, after closing what `end` held. The request to send is written
-/// to `request`. After a fault `end` is closed.
+/// Opens a client that gets a file, by the bytes of its options, after closing what `end` held. The
+/// request to send is written to `request`. After a fault `end` is closed.
 #[unsafe(no_mangle)]
 pub extern "C" fn tftp_open_get(
     alloc: Global,

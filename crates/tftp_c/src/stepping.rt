@@ -1,8 +1,8 @@
 //! The steps of an end for C.
 
-ghost use Rattle.std.specs.Prelude.{◌≡◌, ◌≤◌, false, length, Option};
-ghost use Rattle.tftp_ends.specs.End.{is_sender, record_of};
-ghost use Rattle.tftp_c.specs.Handled.{Received, Sent, TimedOut};
+ghost use Rattle.std.specs.Prelude.{◌≡◌, ◌≤◌, None, length};
+ghost use Rattle.tftp_ends.specs.End.{record_of};
+ghost use Rattle.tftp_c.specs.Handled.{OnClient, OnEnd, Received, Sent, TimedOut};
 ghost use Rattle.tftp_c.specs.Reports.{Reports, Sends};
 ghost use Rattle.tftp_c.specs.Stated.{Learns, LearnsFrom};
 ghost use Rattle.tftp_ends.specs.Step.{lent};
@@ -10,11 +10,12 @@ ghost use Rattle.tftp_c.specs.Waits.{Waits};
 
 use crate::client::Client;
 use crate::event::{self, TftpEndpoint, TftpEvent};
+use crate::handle::TftpEnd;
 use crate::report::{endpoint, report, report_record, wait_of};
 use crate::slice_sink::SliceSink;
 use crate::slice_source::SliceSource;
 use crate::stated::stated_after;
-use tftp_ends::{End, EndFault, Endpoint, NextBlock, Outgoing, Step};
+use tftp_ends::{EndFault, Endpoint, Outgoing, Step};
 
 /// The number that a call returns for this fault.
 fn end_fault(fault: EndFault) -> u8
@@ -58,25 +59,35 @@ fn conclude(
     report_record(&state, wait, step, answer, reply, count, event);
 }
 
-/// Handles a datagram at a receiver: most bring the next block.
+/// Handles a datagram at a receiver: the bytes of the file that it brings are written to `file`,
+/// and the datagram to send to `reply`.
 // A block's step is one function, down to the copy: no phase and no action is copied between calls.
-#[inline(always)]
-pub(crate) fn receive(
-    client: &mut Client,
+#[unsafe(no_mangle)]
+pub extern "C" fn tftp_receive(
+    end: &mut TftpEnd,
     from: &TftpEndpoint,
     datagram: &[u8],
     file: &mut [u8],
     reply: &mut [u8],
     event: &mut TftpEvent,
 ) -> u8
-    ensures ok { result ≡ 0 → Received from.now datagram.now client.old.end client.new.end file.old
-        file.new reply.new event.new }
-    ensures learns { result ≡ 0 → LearnsFrom datagram.now client.old client.new }
+    ensures ok { OnEnd end.old.slot.value end.new.slot.value (λ before e. result ≡ 0
+        → Received from.now datagram.now before e file.old file.new reply.new event.new) }
+    ensures learns { OnClient end.old.slot.value end.new.slot.value (λ c d. result ≡ 0
+        → LearnsFrom datagram.now c d) }
+    ensures waits { OnClient end.old.slot.value end.new.slot.value (λ c d. result ≡ 0
+        → Waits c.backoff d.end event.new) }
+    ensures backoff { OnClient end.old.slot.value end.new.slot.value (λ c d.
+        d.backoff ≡ c.backoff) }
     ensures fits { result ≡ 0 → event.new.send_len ≤ length reply.old }
-    ensures waits { result ≡ 0 → Waits client.old.backoff client.new.end event.new }
-    ensures backoff { client.new.backoff ≡ client.old.backoff }
-    ensures err { (result ≡ 0 → ⊥) → (client.new ≡ client.old) × (event.new ≡ event.old) }
+    ensures err { (result ≡ 0 → ⊥) → end.new.slot.value ≡ end.old.slot.value }
+    ensures unmoved { (result ≡ 0 → ⊥) → event.new ≡ event.old }
+    ensures none { end.old.slot.value ≡ None → result ≡ 1 }
 {
+    if !end.is_open() {
+        return event::NOT_OPEN;
+    }
+    let client = end.slot.client();
     let Some(next) = client.end.next_block(endpoint(from), datagram) else {
         return receive_any(client, from, datagram, file, reply, event);
     };
@@ -98,7 +109,7 @@ pub(crate) fn receive(
     }
 }
 
-/// As [`receive`], of any datagram.
+/// As [`tftp_receive`], of any datagram.
 #[inline(never)]
 fn receive_any(
     client: &mut Client,
@@ -138,25 +149,35 @@ fn receive_any(
     }
 }
 
-/// Handles a datagram at a sender: most request the next block.
+/// Handles a datagram at a sender: it takes what it sends from the start of `next`, the next bytes
+/// of the file, and writes the datagram to send to `reply`.
 // As of a receiver, a block's step is one function.
-#[inline(always)]
-pub(crate) fn send(
-    client: &mut Client,
+#[unsafe(no_mangle)]
+pub extern "C" fn tftp_send(
+    end: &mut TftpEnd,
     from: &TftpEndpoint,
     datagram: &[u8],
     next: &[u8],
     reply: &mut [u8],
     event: &mut TftpEvent,
 ) -> u8
-    ensures ok { result ≡ 0 → Sent from.now datagram.now client.old.end client.new.end next.now
-        reply.new event.new }
-    ensures learns { result ≡ 0 → LearnsFrom datagram.now client.old client.new }
+    ensures ok { OnEnd end.old.slot.value end.new.slot.value (λ before e. result ≡ 0
+        → Sent from.now datagram.now before e next.now reply.new event.new) }
+    ensures learns { OnClient end.old.slot.value end.new.slot.value (λ c d. result ≡ 0
+        → LearnsFrom datagram.now c d) }
+    ensures waits { OnClient end.old.slot.value end.new.slot.value (λ c d. result ≡ 0
+        → Waits c.backoff d.end event.new) }
+    ensures backoff { OnClient end.old.slot.value end.new.slot.value (λ c d.
+        d.backoff ≡ c.backoff) }
     ensures fits { result ≡ 0 → event.new.send_len ≤ length reply.old }
-    ensures waits { result ≡ 0 → Waits client.old.backoff client.new.end event.new }
-    ensures backoff { client.new.backoff ≡ client.old.backoff }
-    ensures err { (result ≡ 0 → ⊥) → (client.new ≡ client.old) × (event.new ≡ event.old) }
+    ensures err { (result ≡ 0 → ⊥) → end.new.slot.value ≡ end.old.slot.value }
+    ensures unmoved { (result ≡ 0 → ⊥) → event.new ≡ event.old }
+    ensures none { end.old.slot.value ≡ None → result ≡ 1 }
 {
+    if !end.is_open() {
+        return event::NOT_OPEN;
+    }
+    let client = end.slot.client();
     let Some(block) = client.end.next_ack(endpoint(from), datagram) else {
         return send_any(client, from, datagram, next, reply, event);
     };
@@ -174,7 +195,7 @@ pub(crate) fn send(
     }
 }
 
-/// As [`send`], of any datagram.
+/// As [`tftp_send`], of any datagram.
 #[inline(never)]
 fn send_any(
     client: &mut Client,
@@ -211,14 +232,25 @@ fn send_any(
 }
 
 /// Delivers a timeout.
-pub(crate) fn time_out(client: &mut Client, reply: &mut [u8], event: &mut TftpEvent) -> u8
-    ensures ok { result ≡ 0 → TimedOut client.old.end client.new.end reply.new event.new }
-    ensures stated { client.new.stated ≡ client.old.stated }
+#[unsafe(no_mangle)]
+pub extern "C" fn tftp_timeout(end: &mut TftpEnd, reply: &mut [u8], event: &mut TftpEvent) -> u8
+    ensures ok { OnEnd end.old.slot.value end.new.slot.value (λ before e. result ≡ 0
+        → TimedOut before e reply.new event.new) }
+    ensures stated { OnClient end.old.slot.value end.new.slot.value (λ c d.
+        d.stated ≡ c.stated) }
+    ensures waits { OnClient end.old.slot.value end.new.slot.value (λ c d. result ≡ 0
+        → Waits c.backoff d.end event.new) }
+    ensures backoff { OnClient end.old.slot.value end.new.slot.value (λ c d.
+        d.backoff ≡ c.backoff) }
     ensures fits { result ≡ 0 → event.new.send_len ≤ length reply.old }
-    ensures waits { result ≡ 0 → Waits client.old.backoff client.new.end event.new }
-    ensures backoff { client.new.backoff ≡ client.old.backoff }
-    ensures err { (result ≡ 0 → ⊥) → (client.new ≡ client.old) × (event.new ≡ event.old) }
+    ensures err { (result ≡ 0 → ⊥) → end.new.slot.value ≡ end.old.slot.value }
+    ensures unmoved { (result ≡ 0 → ⊥) → event.new ≡ event.old }
+    ensures none { end.old.slot.value ≡ None → result ≡ 1 }
 {
+    if !end.is_open() {
+        return event::NOT_OPEN;
+    }
+    let client = end.slot.client();
     match client.end.handle_timeout() {
         Ok((step, outgoing)) => {
             report(&client.end, client.backoff, step, outgoing, reply, 0, event);
