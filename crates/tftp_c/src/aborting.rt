@@ -1,12 +1,13 @@
 //! A transfer that its caller ends by an ERROR.
 
-ghost use Rattle.std.specs.Prelude.{◌≡◌, ◌≤◌, IfErr, None, OnErr, OnOk, length};
-ghost use Rattle.tftp_c.specs.Aborted.{AbortFails, AbortsOpen};
+ghost use Rattle.std.specs.Prelude.{◌≡◌, ◌⊎◌, ◌≤◌, IfErr, None, OnErr, OnOk, length};
+ghost use Rattle.tftp_c.specs.Aborted.{AbortFails, AbortRefused, AbortsOpen, OnRecord};
 ghost use Rattle.tftp_c.specs.Aborted.{abort_number};
 
 use crate::error::{error_packet, may_tell};
 use crate::event::{self, TftpEvent};
-use crate::report::report_apart;
+use crate::handle::TftpEnd;
+use crate::report::{report_apart, state_of};
 use std::alloc::Global;
 use tftp_ends::{Record, Step};
 
@@ -66,5 +67,41 @@ pub(crate) fn abort(
             Ok(())
         }
         None => Err(AbortFault::Memory),
+    }
+}
+
+/// Ends the transfer by an ERROR, which is written to `reply` for the peer, and closes the end.
+///
+/// It is for a caller that cannot go on, as one that could not store a block, and so has not sent the
+/// ACK of it. A client that has no answer yet has no peer, and no ERROR to send.
+#[unsafe(no_mangle)]
+pub extern "C" fn tftp_abort(
+    alloc: Global,
+    end: &mut TftpEnd,
+    code: u16,
+    text: &[u8],
+    reply: &mut [u8],
+    event: &mut TftpEvent,
+) -> u8
+    ensures ok { result ≡ 0 → OnRecord end.old.slot.value
+        (λ r. AbortsOpen r code text.now reply.new event.new) }
+    ensures closed { result ≡ 0 → end.new.slot.value ≡ None }
+    ensures fits { result ≡ 0 → event.new.send_len ≤ length reply.old }
+    ensures fault { (result ≡ 0 → ⊥) → (end.old.slot.value ≡ None)
+        ⊎ OnRecord end.old.slot.value (λ r. AbortRefused 4 r text.now result) }
+    ensures err { (result ≡ 0 → ⊥) → end.new.slot.value ≡ end.old.slot.value }
+    ensures unmoved { (result ≡ 0 → ⊥) → (event.new ≡ event.old) × (reply.new ≡ reply.old) }
+    ensures none { end.old.slot.value ≡ None → result ≡ 1 }
+{
+    if !end.is_open() {
+        return event::NOT_OPEN;
+    }
+    let state = state_of(&end.slot.client().end);
+    match abort(alloc, &state, code, text, reply, event) {
+        Ok(()) => {
+            end.close(alloc);
+            0
+        }
+        Err(fault) => abort_number(fault, event::CLOSED),
     }
 }

@@ -63,3 +63,12 @@ impl TftpEnd {
         drop(held);
     }
 }
+
+/// Closes the end and frees its memory, if there is one. `tftp_close` of `tftp.h` calls it, which
+/// allows null.
+#[unsafe(no_mangle)]
+pub extern "C" fn tftp_close_end(alloc: Global, end: &mut TftpEnd)
+    ensures { end.new.slot.value ≡ None }
+{
+    end.close(alloc);
+}

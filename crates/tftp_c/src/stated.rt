@@ -1,7 +1,7 @@
 //! The length of the file that a packet states, for C.
 
-ghost use Rattle.std.specs.Prelude.{None};
-ghost use Rattle.tftp_c.specs.Stated.{Learns, StatedBy};
+ghost use Rattle.std.specs.Prelude.{◌≡◌, None, true, false};
+ghost use Rattle.tftp_c.specs.Stated.{Learns, StatedBy, States, StatesNone};
 
 use crate::options::listed_in;
 use tftp_ends::Endpoint;
@@ -33,5 +33,22 @@ pub(crate) fn stated_after(
             Some(_) => stated_length(datagram),
             None => known,
         },
+    }
+}
+
+/// Whether the packet that a datagram spells states the length of its file, which is written to
+/// `length`.
+#[unsafe(no_mangle)]
+pub extern "C" fn tftp_stated_length(datagram: &[u8], length: &mut u64) -> bool
+    ensures stated { result ≡ true → States datagram.now length.new }
+    ensures none { result ≡ false → StatesNone datagram.now }
+    ensures unmoved { result ≡ false → length.new ≡ length.old }
+{
+    match stated_length(datagram) {
+        Some(stated) => {
+            *length = stated;
+            true
+        }
+        None => false,
     }
 }
