@@ -89,26 +89,11 @@ pub extern "C" fn tftp_server_get(
         return event::NOT_OPEN;
     }
     let held = server.slot.server();
-    match serve_get(
-        alloc,
-        from,
-        request,
-        length,
-        next,
-        &held.options,
-        reply.len(),
-    ) {
+    let room = reply.len();
+    match serve_get(alloc, from, request, length, next, &held.options, room) {
         Ok(Served { end, count }) => {
-            holding::open(
-                &mut held.server,
-                tid,
-                from,
-                request,
-                end,
-                count,
-                reply,
-                event,
-            )
+            let table = &mut held.server;
+            holding::open(table, tid, from, request, end, count, reply, event)
         }
         Err(fault) => fault,
     }

@@ -88,7 +88,8 @@ pub extern "C" fn tftp_receive(
         return event::NOT_OPEN;
     }
     let client = end.slot.client();
-    let Some(next) = client.end.next_block(endpoint(from), datagram) else {
+    let origin = endpoint(from);
+    let Some(next) = client.end.next_block(origin, datagram) else {
         return receive_any(client, from, datagram, file, reply, event);
     };
     let mut sink = SliceSink {
@@ -96,10 +97,7 @@ pub extern "C" fn tftp_receive(
         used: 0,
         is_committed: false,
     };
-    match client
-        .end
-        .store_next(next, &mut sink, endpoint(from), datagram)
-    {
+    match client.end.store_next(next, &mut sink, origin, datagram) {
         Ok((step, outgoing)) => {
             let made = (step, outgoing, sink.count());
             conclude(client, Some(next.peer()), datagram, made, reply, event);
@@ -178,14 +176,12 @@ pub extern "C" fn tftp_send(
         return event::NOT_OPEN;
     }
     let client = end.slot.client();
-    let Some(block) = client.end.next_ack(endpoint(from), datagram) else {
+    let origin = endpoint(from);
+    let Some(block) = client.end.next_ack(origin, datagram) else {
         return send_any(client, from, datagram, next, reply, event);
     };
     let mut source = SliceSource::of(next);
-    match client
-        .end
-        .send_next(block, &mut source, endpoint(from), datagram)
-    {
+    match client.end.send_next(block, &mut source, origin, datagram) {
         Ok((step, outgoing)) => {
             let made = (step, outgoing, source.taken_of(next));
             conclude(client, Some(block.peer()), datagram, made, reply, event);
