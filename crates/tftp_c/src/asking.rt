@@ -4,15 +4,16 @@ ghost use Rattle.std.specs.Prelude.{◌≡◌, ◌≤◌, length, IfSome};
 ghost use Rattle.tftp_ends.specs.Step.{error_bytes};
 ghost use Rattle.tftp_server.specs.CallersFiles.{asked_mode};
 ghost use Rattle.tftp_c.specs.Modes.{mode_or_none};
-ghost use Rattle.tftp_c.specs.HeldServer.{Asks, Named, Refused};
+ghost use Rattle.tftp_c.specs.HeldServer.{Asks, AsksOf, Named, Refused};
 
-use crate::event::{self, TftpQuestion};
+use crate::elsewhere::Elsewhere;
+use crate::event::{self, TftpEndpoint, TftpQuestion};
 use crate::packet::mode_number;
-use crate::report::write;
+use crate::report::{endpoint, write};
 use crate::slice_sink::write_at;
 use std::alloc::Global;
 use tftp_ends::ErrorReply;
-use tftp_server::Admission;
+use tftp_server::{Admission, Server};
 
 /// The number of the mode of a request that may be served, or 0.
 fn mode_of(admission: &Admission<'_>) -> u8
@@ -45,7 +46,7 @@ fn about(wants: u8, mode: u8, path: &[u8], name: &mut [u8]) -> TftpQuestion
 }
 
 /// Asks nothing, and has an ERROR of this length to be sent, or 0.
-pub(crate) fn answered(send_len: usize) -> TftpQuestion
+fn answered(send_len: usize) -> TftpQuestion
     ensures len { result.send_len ≡ send_len }
     ensures nothing { (result.wants ≡ 0) × (result.mode ≡ 0) × (result.name_len ≡ 0) }
 {
@@ -71,7 +72,7 @@ fn refuse(alloc: Global, error: ErrorReply, reply: &mut [u8]) -> Option<usize>
 }
 
 /// What is asked of the caller for an admission, or `None` out of memory.
-pub(crate) fn question_of(
+fn question_of(
     alloc: Global,
     admission: &Admission<'_>,
     name: &mut [u8],
@@ -93,5 +94,37 @@ pub(crate) fn question_of(
             None => None,
         },
         None => Some(answered(0)),
+    }
+}
+
+/// Reads a datagram at the request port. The server is unchanged. One from port 0 is ignored, since no
+/// answer can come to it.
+pub(crate) fn request(
+    alloc: Global,
+    server: &Server<Elsewhere>,
+    from: &TftpEndpoint,
+    datagram: &[u8],
+    name: &mut [u8],
+    reply: &mut [u8],
+    question: &mut TftpQuestion,
+) -> u8
+    ensures ok { result ≡ 0
+        → AsksOf server.now from.now datagram.now name.new reply.new question.new }
+    ensures fits { result ≡ 0 → question.new.send_len ≤ length reply.old }
+    ensures unmoved { (result ≡ 0 → ⊥) → question.new ≡ question.old }
+{
+    if from.port == 0 {
+        *question = answered(0);
+        return 0;
+    }
+    let Ok(admission) = server.admit(endpoint(from), datagram) else {
+        return event::MEMORY;
+    };
+    match question_of(alloc, &admission, name, reply) {
+        Some(asked) => {
+            *question = asked;
+            0
+        }
+        None => event::MEMORY,
     }
 }

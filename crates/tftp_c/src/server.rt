@@ -11,17 +11,13 @@ ghost use Rattle.tftp_c.specs.Informed.{InformsAt, InfoFaultAt};
 ghost use Rattle.tftp_c.specs.Waits.{backoff_of, WaitsAt};
 
 use crate::event::{self, TftpEndpoint, TftpEvent, TftpInfo, TftpQuestion};
-use crate::report::endpoint;
 use crate::server_handle::TftpServer;
 use crate::serving::{Served, serve_get, serve_put};
-use crate::slice_sink::SliceSink;
-use crate::slice_source::SliceSource;
 use crate::{aborting, asking, holding, informing, transfers};
 use std::alloc::Global;
 
 /// Reads a datagram at the request port: the path of the file that it asks for is written to
-/// `name`, or the ERROR that answers it to `reply`. One from port 0 is ignored, since no answer can
-/// come to it.
+/// `name`, or the ERROR that answers it to `reply`.
 #[unsafe(no_mangle)]
 pub extern "C" fn tftp_server_request(
     alloc: Global,
@@ -42,21 +38,8 @@ pub extern "C" fn tftp_server_request(
     if !server.is_open() {
         return event::NOT_OPEN;
     }
-    if from.port == 0 {
-        *question = asking::answered(0);
-        return 0;
-    }
     let held = server.slot.server();
-    let Ok(admission) = held.server.admit(endpoint(from), datagram) else {
-        return event::MEMORY;
-    };
-    match asking::question_of(alloc, &admission, name, reply) {
-        Some(asked) => {
-            *question = asked;
-            0
-        }
-        None => event::MEMORY,
-    }
+    asking::request(alloc, &held.server, from, datagram, name, reply, question)
 }
 
 /// Opens a transfer for a read request: the file has `length` bytes, of which `next` are the first.
@@ -162,31 +145,16 @@ pub extern "C" fn tftp_server_receive(
     }
     let held = server.slot.server();
     let backoff = held.options.backoff();
-    let mut sink = SliceSink {
-        room: file,
-        used: 0,
-        is_committed: false,
-    };
-    match held
-        .server
-        .lend_sink(tid, &mut sink, endpoint(from), datagram)
-    {
-        Ok((step, outgoing)) => {
-            let count = sink.count();
-            transfers::report_at(
-                &held.server,
-                tid,
-                backoff,
-                step,
-                outgoing,
-                reply,
-                count,
-                event,
-            );
-            0
-        }
-        Err(fault) => holding::table_fault(fault),
-    }
+    transfers::receive(
+        &mut held.server,
+        tid,
+        backoff,
+        from,
+        datagram,
+        file,
+        reply,
+        event,
+    )
 }
 
 /// Handles a datagram at the transfer with the identifier, as `tftp_send`.
@@ -218,27 +186,16 @@ pub extern "C" fn tftp_server_send(
     }
     let held = server.slot.server();
     let backoff = held.options.backoff();
-    let mut source = SliceSource::of(next);
-    match held
-        .server
-        .lend_source(tid, &mut source, endpoint(from), datagram)
-    {
-        Ok((step, outgoing)) => {
-            let count = source.taken_of(next);
-            transfers::report_at(
-                &held.server,
-                tid,
-                backoff,
-                step,
-                outgoing,
-                reply,
-                count,
-                event,
-            );
-            0
-        }
-        Err(fault) => holding::table_fault(fault),
-    }
+    transfers::send(
+        &mut held.server,
+        tid,
+        backoff,
+        from,
+        datagram,
+        next,
+        reply,
+        event,
+    )
 }
 
 /// Delivers a timeout to the transfer with the identifier, as `tftp_timeout`.
@@ -267,13 +224,7 @@ pub extern "C" fn tftp_server_timeout(
     }
     let held = server.slot.server();
     let backoff = held.options.backoff();
-    match held.server.handle_timeout(tid) {
-        Ok((step, outgoing)) => {
-            transfers::report_at(&held.server, tid, backoff, step, outgoing, reply, 0, event);
-            0
-        }
-        Err(fault) => holding::table_fault(fault),
-    }
+    transfers::time_out(&mut held.server, tid, backoff, reply, event)
 }
 
 /// Ends the transfer with the identifier by an ERROR, as `tftp_abort`, and removes it.

@@ -61,7 +61,6 @@ fn conclude(
 
 /// Handles a datagram at a receiver: the bytes of the file that it brings are written to `file`,
 /// and the datagram to send to `reply`.
-// A block's step is one function, down to the copy: no phase and no action is copied between calls.
 #[unsafe(no_mangle)]
 pub extern "C" fn tftp_receive(
     end: &mut TftpEnd,
@@ -87,7 +86,28 @@ pub extern "C" fn tftp_receive(
     if !end.is_open() {
         return event::NOT_OPEN;
     }
-    let client = end.slot.client();
+    receive(end.slot.client(), from, datagram, file, reply, event)
+}
+
+/// Handles a datagram at a receiver: most bring the next block.
+// A block's step is one function, down to the copy: no phase and no action is copied between calls.
+#[inline(always)]
+fn receive(
+    client: &mut Client,
+    from: &TftpEndpoint,
+    datagram: &[u8],
+    file: &mut [u8],
+    reply: &mut [u8],
+    event: &mut TftpEvent,
+) -> u8
+    ensures ok { result ≡ 0 → Received from.now datagram.now client.old.end client.new.end file.old
+        file.new reply.new event.new }
+    ensures learns { result ≡ 0 → LearnsFrom datagram.now client.old client.new }
+    ensures fits { result ≡ 0 → event.new.send_len ≤ length reply.old }
+    ensures waits { result ≡ 0 → Waits client.old.backoff client.new.end event.new }
+    ensures backoff { client.new.backoff ≡ client.old.backoff }
+    ensures err { (result ≡ 0 → ⊥) → (client.new ≡ client.old) × (event.new ≡ event.old) }
+{
     let origin = endpoint(from);
     let Some(next) = client.end.next_block(origin, datagram) else {
         return receive_any(client, from, datagram, file, reply, event);
@@ -107,7 +127,7 @@ pub extern "C" fn tftp_receive(
     }
 }
 
-/// As [`tftp_receive`], of any datagram.
+/// As [`receive`], of any datagram.
 #[inline(never)]
 fn receive_any(
     client: &mut Client,
@@ -149,7 +169,6 @@ fn receive_any(
 
 /// Handles a datagram at a sender: it takes what it sends from the start of `next`, the next bytes
 /// of the file, and writes the datagram to send to `reply`.
-// As of a receiver, a block's step is one function.
 #[unsafe(no_mangle)]
 pub extern "C" fn tftp_send(
     end: &mut TftpEnd,
@@ -175,7 +194,28 @@ pub extern "C" fn tftp_send(
     if !end.is_open() {
         return event::NOT_OPEN;
     }
-    let client = end.slot.client();
+    send(end.slot.client(), from, datagram, next, reply, event)
+}
+
+/// Handles a datagram at a sender: most request the next block.
+// As of a receiver, a block's step is one function.
+#[inline(always)]
+fn send(
+    client: &mut Client,
+    from: &TftpEndpoint,
+    datagram: &[u8],
+    next: &[u8],
+    reply: &mut [u8],
+    event: &mut TftpEvent,
+) -> u8
+    ensures ok { result ≡ 0 → Sent from.now datagram.now client.old.end client.new.end next.now
+        reply.new event.new }
+    ensures learns { result ≡ 0 → LearnsFrom datagram.now client.old client.new }
+    ensures fits { result ≡ 0 → event.new.send_len ≤ length reply.old }
+    ensures waits { result ≡ 0 → Waits client.old.backoff client.new.end event.new }
+    ensures backoff { client.new.backoff ≡ client.old.backoff }
+    ensures err { (result ≡ 0 → ⊥) → (client.new ≡ client.old) × (event.new ≡ event.old) }
+{
     let origin = endpoint(from);
     let Some(block) = client.end.next_ack(origin, datagram) else {
         return send_any(client, from, datagram, next, reply, event);
@@ -191,7 +231,7 @@ pub extern "C" fn tftp_send(
     }
 }
 
-/// As [`tftp_send`], of any datagram.
+/// As [`send`], of any datagram.
 #[inline(never)]
 fn send_any(
     client: &mut Client,
