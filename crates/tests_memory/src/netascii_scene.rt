@@ -8,6 +8,9 @@ use tftp_file::{NetDecoder, NetEncoder, NetFault};
 /// The wire text, cut inside both of its pairs.
 const PIECES: [&[u8]; 3] = [b"\r", b"\0\r", b"\nA"];
 
+/// The bytes that are encoded.
+const HOST: &[u8] = b"\r\nA";
+
 /// Runs the scene.
 pub(crate) fn play(rt: &HostRuntime) -> Result<()> {
     println!(rt; "netascii in pieces")?;
@@ -28,36 +31,69 @@ fn seen(alloc: Global, out: &[u8], held: usize) -> Result<String> {
     Ok(text)
 }
 
+/// Reports that a call was out of memory, before which no byte was appended, and so many were held
+/// back.
+fn was_kept(rt: &HostRuntime, before: usize, out: &[u8], held: usize) -> Result<()> {
+    let alloc = rt.alloc();
+    let before = seen(alloc, b"", before)?;
+    was_refused(rt, &before, &seen(alloc, out, held)?)
+}
+
+/// Prints what a call returned, the bytes appended, and how many are held back.
+fn prints(rt: &HostRuntime, answer: Result<(), NetFault>, out: &[u8], held: usize) -> Result<()> {
+    let text = seen(rt.alloc(), out, held)?;
+    println!(rt; "{answer:?} {text}")?;
+    Ok(())
+}
+
 /// Encodes the host bytes.
 fn encodes(rt: &HostRuntime) -> Result<()> {
-    let mut encoder = NetEncoder::new();
     let mut out = Vec::new(rt.alloc());
-    let host = b"\r\nA".as_slice();
-    let before = seen(rt.alloc(), &out, 0)?;
+    let done = encodes_into(rt, &mut out);
+    drop(out);
+    done
+}
+
+fn encodes_into(rt: &HostRuntime, out: &mut Vec<u8>) -> Result<()> {
+    let mut encoder = NetEncoder::new();
     announce(rt, "encode 0d0a41")?;
-    let mut answer = encoder.push(host, &mut out);
+    let mut answer = encoder.push(HOST, out);
     has_returned(rt)?;
     if answer == Err(NetFault::Memory) {
-        was_refused(rt, &before, &seen(rt.alloc(), &out, 0)?)?;
-        answer = encoder.push(host, &mut out);
+        was_kept(rt, 0, out, 0)?;
+        answer = encoder.push(HOST, out);
     }
-    println!(rt; "{answer:?} {}", seen(rt.alloc(), &out, 0)?)?;
-    Ok(())
+    prints(rt, answer, out, 0)
 }
 
 /// Decodes a piece.
 fn decodes(rt: &HostRuntime, decoder: &mut NetDecoder, piece: &[u8]) -> Result<()> {
+    is_announced(rt, piece)?;
+    let mut out = Vec::new(rt.alloc());
+    let done = decodes_into(rt, decoder, piece, &mut out);
+    drop(out);
+    done
+}
+
+/// Announces that a piece is decoded.
+fn is_announced(rt: &HostRuntime, piece: &[u8]) -> Result<()> {
     let mut call = String::from_str(rt.alloc(), "decode ")?;
     append_bytes(&mut call, piece)?;
-    let mut out = Vec::new(rt.alloc());
-    let before = seen(rt.alloc(), &out, decoder.held())?;
-    announce(rt, &call)?;
-    let mut answer = decoder.push(piece, &mut out);
+    announce(rt, &call)
+}
+
+fn decodes_into(
+    rt: &HostRuntime,
+    decoder: &mut NetDecoder,
+    piece: &[u8],
+    out: &mut Vec<u8>,
+) -> Result<()> {
+    let before = decoder.held();
+    let mut answer = decoder.push(piece, out);
     has_returned(rt)?;
     if answer == Err(NetFault::Memory) {
-        was_refused(rt, &before, &seen(rt.alloc(), &out, decoder.held())?)?;
-        answer = decoder.push(piece, &mut out);
+        was_kept(rt, before, out, decoder.held())?;
+        answer = decoder.push(piece, out);
     }
-    println!(rt; "{answer:?} {}", seen(rt.alloc(), &out, decoder.held())?)?;
-    Ok(())
+    prints(rt, answer, out, decoder.held())
 }

@@ -38,6 +38,11 @@ impl Move {
         }
     }
 
+    fn is_announced(self, rt: &HostRuntime) -> Result<()> {
+        let words = self.words(rt.alloc())?;
+        announce(rt, &words)
+    }
+
     /// The event of the move, if it has one.
     fn event(self, alloc: Global) -> Result<Option<Event>, AllocError>
         ensures playable { IfOk result (λ found. IfSome found (λ event. IsPlayable event)) }
@@ -177,15 +182,21 @@ impl Played {
     /// Makes the next move, and again if it was out of memory.
     fn does(&mut self, rt: &HostRuntime, next: Move) -> Result<()> {
         let before = self.seen()?;
-        let words = next.words(self.alloc)?;
+        let done = self.makes(rt, next, &before);
+        drop(before);
+        done
+    }
+
+    /// Announces and makes a move, before which the state was so.
+    fn makes(&mut self, rt: &HostRuntime, next: Move, before: &str) -> Result<()> {
         match next.event(self.alloc)? {
             Some(event) => {
-                announce(rt, &words)?;
+                next.is_announced(rt)?;
                 let answer = self.world.apply(event);
                 has_returned(rt)?;
                 match answer {
                     Err(WorldFault::Memory) => {
-                        was_refused(rt, &before, &self.seen()?)?;
+                        was_refused(rt, before, &self.seen()?)?;
                         self.does_again(rt, next)
                     }
                     answer => prints(rt, answer?),
@@ -212,29 +223,44 @@ impl Played {
 
     /// The file.
     fn file(&self) -> Result<String> {
-        let mut text = format!(in self.alloc; "{} ", self.name)?;
+        let mut text = String::new(self.alloc);
+        match self.append_file(&mut text) {
+            Ok(()) => Ok(text),
+            Err(error) => Err(error),
+        }
+    }
+
+    fn append_file(&self, text: &mut String) -> Result<()> {
+        write!(text, "{} ", self.name)?;
         match self.world.file(&self.path) {
-            Some(bytes) => append_bytes(&mut text, bytes)?,
+            Some(bytes) => append_bytes(text, bytes)?,
             None => text.push_str("is not there")?,
         }
-        Ok(text)
+        Ok(())
     }
 
     /// The visible state of the world: the datagrams sent, each end and the bytes that it stored,
     /// the file.
     fn seen(&self) -> Result<String> {
         let mut text = String::new(self.alloc);
+        match self.append_state(&mut text) {
+            Ok(()) => Ok(text),
+            Err(error) => Err(error),
+        }
+    }
+
+    fn append_state(&self, text: &mut String) -> Result<()> {
         for (index, sent) in self.world.sent().iter().enumerate() {
             write!(text, "#{index} {} > {} ", sent.from, sent.to)?;
-            append_bytes(&mut text, sent.bytes.as_slice())?;
+            append_bytes(text, sent.bytes.as_slice())?;
             text.push('\n')?;
         }
         for (port, record) in self.world.records() {
-            self.append_end(&mut text, *port, record)?;
+            self.append_end(text, *port, record)?;
         }
-        text.push_str(&self.file()?)?;
+        self.append_file(text)?;
         text.push('\n')?;
-        Ok(text)
+        Ok(())
     }
 
     /// Appends an end, and the bytes that it stored.
