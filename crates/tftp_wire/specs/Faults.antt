@@ -1,4 +1,4 @@
--- The numbers and names of the faults, and the fault for out of memory (our own).
+-- The numbers, names and texts of the faults, and the fault for out of memory (our own).
 use Rattle.std.specs.Prelude.{ℕ, ◌≡◌, List, codes, Option, Some, None}
 use Rattle.tftp_wire.specs.declared.fault.PacketFault.{PacketFault}
 use Rattle.tftp_wire.specs.declared.fault.PacketFaultKind.{PacketFaultKind}
@@ -37,6 +37,21 @@ kind_name TooLong = codes "TooLong"
 kind_name BlockZero = codes "BlockZero"
 kind_name EmptyOack = codes "EmptyOack"
 kind_name Memory = codes "Memory"
+
+-- what is printed of a kind
+abbrev pub kind_text : PacketFaultKind → List ℕ
+kind_text Short = codes "the datagram is too short"
+kind_text Opcode = codes "the opcode is unknown"
+kind_text Unterminated = codes "a text has no zero byte after it"
+kind_text EmptyName = codes "the file name is empty"
+kind_text Mode = codes "the mode is neither netascii nor octet"
+kind_text NoValue = codes "an option has no value"
+kind_text EmptyOption = codes "an option has no name"
+kind_text Trailing = codes "bytes stand after the packet"
+kind_text TooLong = codes "the datagram is too long"
+kind_text BlockZero = codes "a DATA has the number 0"
+kind_text EmptyOack = codes "an OACK holds no option"
+kind_text Memory = codes "out of memory"
 
 -- out of memory, which is not a fault of the bytes
 abbrev pub out_of_memory : PacketFault

@@ -66,6 +66,11 @@ impl PacketFaultKind {
 }
 
 impl fmt::Display for PacketFaultKind {
+    ghost use Rattle.std.specs.Prelude.{Some};
+    ghost use Rattle.tftp_wire.specs.Faults.{kind_text};
+
+    ghost output = { λ kind. Some (kind_text kind) };
+
     // One call for all kinds: a message on each variant would be a call of its own.
     fn fmt<W: fmt::Write>(&self, f: &mut fmt::Formatter<W>) -> fmt::Result {
         f.write_str(match self {
