@@ -2,11 +2,15 @@
 
 ghost use Rattle.std.specs.Prelude.{◌≤◌};
 
-use crate::play::{EventNames, PLAIN, PlayFault, Playing, draw_as, play_as};
-use clap::{Arg, Command};
+use crate::play::{
+    EventNames, PLAIN, PlayFault, Played, Playing, draw, outcome_after, play, read_script,
+    status_after,
+};
+use crate::recording::Recording;
+use clap::{Arg, ArgMatches, Command};
 use std::alloc::{AllocError, Global};
 use std::convert::AsStr;
-use std::io::{Read, Write};
+use std::io::Write;
 use std::rt::Runtime;
 use std::{fs, io};
 use tftp_arguments::{VERSION, flag, own_words, print_usage, print_words_fault};
@@ -41,15 +45,7 @@ pub fn play_words<R: Runtime + AllocGlobal, S: AsStr, E: Write + Drop>(
         return PlayFault::Memory.report(PLAIN, &[], &mut errors);
     };
     match command.try_get_matches_from(words) {
-        Ok(matches) => {
-            let events = if matches.get_flag("events") {
-                EventNames::Shown
-            } else {
-                EventNames::Hidden
-            };
-            let script = matches.get_str("SCRIPT");
-            play_script(rt, script, matches.get_str("svg"), events, errors)
-        }
+        Ok(matches) => play_matches(rt, &matches, &mut errors),
         Err(error) => print_usage(rt, &error),
     }
 }
@@ -69,46 +65,59 @@ fn play_syntax<'a>(alloc: Global) -> Result<Command<'a>, AllocError> {
         .args(arguments)
 }
 
-/// Plays the script in the file at the path, or on standard input.
-fn play_script<R: Runtime + AllocGlobal, E: Write + Drop>(
+/// Plays a script on standard output, and draws the run, as a command line says.
+fn play_matches<R: Runtime + AllocGlobal, E: Write>(
     rt: &R,
-    path: Option<&str>,
-    svg: Option<&str>,
-    events: EventNames,
-    mut errors: E,
+    matches: &ArgMatches<'_>,
+    errors: &mut E,
 ) -> u8
     ensures { result ≤ 2 }
 {
+    let path = matches.get_str("SCRIPT");
+    let svg = matches.get_str("svg");
+    let events = if matches.get_flag("events") {
+        EventNames::Shown
+    } else {
+        EventNames::Hidden
+    };
     let how = Playing {
-        events,
         script: path.unwrap_or("standard input"),
         picture: svg.unwrap_or("the picture"),
     };
-    let Some(path) = path else {
-        return play_source(rt, rt.reader(), svg, how, errors);
-    };
-    match fs::open(rt, path) {
-        Ok(script) => play_source(rt, script, svg, how, errors),
-        Err(error) => PlayFault::of_reading(&error).report(how, &[], &mut errors),
+    match script_text(rt, path) {
+        Ok(text) => {
+            let outcome = outcome_of(rt, text.as_slice(), svg, events);
+            status_after(outcome, how, text.as_slice(), errors)
+        }
+        Err(fault) => fault.report(how, &[], errors),
     }
 }
 
-/// Plays a script on standard output, and draws the run into the file at the path, if any.
-fn play_source<R: Runtime + AllocGlobal, S: Read + Drop, E: Write + Drop>(
-    rt: &R,
-    script: S,
-    svg: Option<&str>,
-    how: Playing<'_>,
-    mut errors: E,
-) -> u8
-    ensures { result ≤ 2 }
-{
-    let output = io::writer(rt);
-    match svg {
-        None => play_as(rt.alloc(), script, output, &mut errors, how),
-        Some(path) => {
-            let picture = || fs::create(rt, path);
-            draw_as(rt.alloc(), script, output, picture, &mut errors, how)
-        }
+/// All bytes of the script in the file at the path, or on standard input.
+fn script_text<R: Runtime + AllocGlobal>(rt: &R, path: Option<&str>) -> Result<Vec<u8>, PlayFault> {
+    let Some(path) = path else {
+        return read_script(rt.alloc(), rt.reader());
+    };
+    match fs::open(rt, path) {
+        Ok(script) => read_script(rt.alloc(), script),
+        Err(error) => Err(PlayFault::of_reading(&error)),
     }
+}
+
+/// Plays a script on standard output, draws the run into the file at the path, if any, and returns
+/// what it came to.
+fn outcome_of<R: Runtime + AllocGlobal>(
+    rt: &R,
+    script: &[u8],
+    svg: Option<&str>,
+    events: EventNames,
+) -> Result<Played, PlayFault> {
+    let output = io::writer(rt);
+    let Some(path) = svg else {
+        return play(rt.alloc(), script, output, None, events);
+    };
+    let recording = Some(Recording::new(rt.alloc()));
+    let outcome = play(rt.alloc(), script, output, recording, events);
+    let drawing = draw(&outcome, || fs::create(rt, path));
+    outcome_after(outcome, drawing)
 }

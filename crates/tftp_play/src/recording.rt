@@ -14,8 +14,9 @@ use tftp_wire::show_datagram;
 #[derive(Drop)]
 pub(crate) struct Recording {
     alloc: Global,
-    /// The picture, in which the roles of the lanes are missing until the run is over.
-    diagram: Diagram,
+    /// The picture, in which the roles of the lanes are missing until the run is over, and the title
+    /// and the summary until it is described.
+    pub(crate) diagram: Diagram,
     /// The endpoint of each lane.
     ports: Vec<Endpoint>,
     /// The index of each datagram of the picture in all that was sent; none for a stray.
@@ -35,6 +36,17 @@ pub(crate) enum Cause {
     Timeout(u16),
     /// The store of the end at this port is set to refuse.
     Refusal(u16),
+}
+
+/// What happens at an end, which a mark shows.
+#[derive(Clone, Copy)]
+enum Marked {
+    /// A timeout.
+    Timeout,
+    /// Its store is set to refuse.
+    Refusal,
+    /// It closed.
+    Closed(Outcome),
 }
 
 /// A datagram that is sent in a row.
@@ -108,12 +120,11 @@ impl Recording {
         }
     }
 
-    /// The picture of the run.
-    pub(crate) fn into_diagram(self) -> Result<Diagram, AllocError> {
-        let mut diagram = self.diagram;
-        diagram.title = String::from_str(self.alloc, title_of(&diagram))?;
-        diagram.summary = summary_of(self.alloc, &diagram)?;
-        Ok(diagram)
+    /// Gives the picture its title and its summary.
+    pub(crate) fn describe(&mut self) -> Result<(), AllocError> {
+        self.diagram.title = String::from_str(self.alloc, title_of(&self.diagram))?;
+        self.diagram.summary = summary_of(self.alloc, &self.diagram)?;
+        Ok(())
     }
 
     fn try_add(&mut self, cause: Cause, report: &Report, world: &World) -> Result<(), AllocError> {
@@ -136,8 +147,7 @@ impl Recording {
         }
         if let Some((port, outcome)) = report.closed {
             let closed = end_at(world.records(), port);
-            let text = format!(in self.alloc; "closed {outcome}")?;
-            self.mark(closed, row, close_of(outcome), text, reply_to)?;
+            self.mark(closed, row, Marked::Closed(outcome), reply_to)?;
         }
         Ok(())
     }
@@ -189,14 +199,10 @@ impl Recording {
             Cause::Opening => Ok(None),
             Cause::Arrival(index) => self.arrive(index, row),
             Cause::Timeout(port) => {
-                let text = String::from_str(self.alloc, "timeout")?;
-                let at = end_at(records, port);
-                self.mark(at, row, MarkKind::Timeout, text, reply_to)
+                self.mark(end_at(records, port), row, Marked::Timeout, reply_to)
             }
             Cause::Refusal(port) => {
-                let text = String::from_str(self.alloc, "store refuses next")?;
-                let at = end_at(records, port);
-                self.mark(at, row, MarkKind::Refusal, text, reply_to)
+                self.mark(end_at(records, port), row, Marked::Refusal, reply_to)
             }
         }
     }
@@ -218,24 +224,22 @@ impl Recording {
         &mut self,
         at: Option<Endpoint>,
         row: Row,
-        kind: MarkKind,
-        text: String,
+        marked: Marked,
         reply_to: Option<Endpoint>,
     ) -> Result<Option<Endpoint>, AllocError> {
-        if let Some(at) = at {
-            let reply_to = match reply_to {
-                Some(to) => Some(self.lane_of(to)?),
-                None => None,
-            };
-            let lane = self.lane_of(at)?;
-            self.diagram.marks.push(Mark {
-                lane,
-                row,
-                kind,
-                text,
-                reply_to,
-            })?;
-        }
+        let Some(endpoint) = at else {
+            return Ok(None);
+        };
+        let reply_to = self.lane_if(reply_to)?;
+        let lane = self.lane_of(endpoint)?;
+        let text = text_of(self.alloc, marked)?;
+        self.diagram.marks.push(Mark {
+            lane,
+            row,
+            kind: kind_of(marked),
+            text,
+            reply_to,
+        })?;
         Ok(at)
     }
 
@@ -243,23 +247,21 @@ impl Recording {
     fn send(&mut self, sending: Sending<'_>) -> Result<(), AllocError> {
         let from = self.lane_of(sending.from)?;
         let to = self.lane_of(sending.to)?;
-        let opened_at = match sending.opened_at {
-            Some(at) => Some(self.lane_of(at)?),
-            None => None,
-        };
-        let flight = Flight {
+        let opened_at = self.lane_if(sending.opened_at)?;
+        self.indices.push(sending.index)?;
+        let label = label_of(self.alloc, sending.index, sending.bytes)?;
+        let again = again_of(self.alloc, sending.index)?;
+        self.diagram.flights.push(Flight {
             from,
             to,
-            label: label_of(self.alloc, sending.index, sending.bytes)?,
-            again: again_of(self.alloc, sending.index)?,
+            label,
+            again,
             opened_at,
             sent: sending.row,
             course: Course::Followed,
             arrivals: Vec::new(self.alloc),
             arrives_later: false,
-        };
-        self.indices.push(sending.index)?;
-        self.diagram.flights.push(flight)?;
+        })?;
         Ok(())
     }
 
@@ -288,14 +290,23 @@ impl Recording {
             return Ok(lane);
         }
         let lane = self.ports.len();
+        self.ports.push(at)?;
+        let name = format!(in self.alloc; "{at}")?;
         self.diagram.lanes.push(Lane {
             host: host_of(at),
-            name: format!(in self.alloc; "{at}")?,
+            name,
             role: "",
             is_end: false,
         })?;
-        self.ports.push(at)?;
         Ok(lane)
+    }
+
+    /// The lane of an endpoint, if there is one.
+    fn lane_if(&mut self, at: Option<Endpoint>) -> Result<Option<usize>, AllocError> {
+        match at {
+            Some(at) => Ok(Some(self.lane_of(at)?)),
+            None => Ok(None),
+        }
     }
 
     /// The index of the flight of this datagram.
@@ -306,19 +317,24 @@ impl Recording {
 
 /// The title of a picture: a network that lost nothing is not called lossy.
 fn title_of(diagram: &Diagram) -> &'static str {
-    if diagram.flights.iter().any(Flight::is_lost) {
+    if lost_of(diagram.flights.as_slice()) > 0 {
         "tftp-play: TFTP over a lossy network"
     } else {
         "tftp-play: TFTP transfers"
     }
 }
 
+/// How many datagrams were never delivered.
+fn lost_of(flights: &[Flight]) -> usize {
+    flights.iter().filter(|flight| flight.is_lost()).count()
+}
+
 /// The result of the run: how many datagrams were sent, and what happened otherwise than once.
 fn summary_of(alloc: Global, diagram: &Diagram) -> Result<String, AllocError> {
-    let flights = &diagram.flights;
     let mut text = String::new(alloc);
+    let flights = diagram.flights.as_slice();
     write!(text, "{}", count_of(flights.len(), "datagram"))?;
-    let lost = flights.iter().filter(|flight| flight.is_lost()).count();
+    let lost = lost_of(flights);
     if lost > 0 {
         write!(text, ", {lost} never delivered")?;
     }
@@ -350,7 +366,9 @@ fn label_of(alloc: Global, index: Option<usize>, bytes: &[u8]) -> Result<String,
         Some(index) => write!(label, "#{index} ")?,
         None => label.push_str("stray ")?,
     }
-    show_datagram(bytes, &mut label).map_err(|_| AllocError)?;
+    if show_datagram(bytes, &mut label).is_err() {
+        return Err(AllocError);
+    }
     shortened(alloc, label)
 }
 
@@ -362,11 +380,22 @@ fn again_of(alloc: Global, index: Option<usize>) -> Result<String, AllocError> {
     }
 }
 
-/// How a close is drawn.
-fn close_of(outcome: Outcome) -> MarkKind {
-    match outcome {
-        Outcome::Complete => MarkKind::Completed,
-        _ => MarkKind::Failed,
+/// The text of a mark.
+fn text_of(alloc: Global, marked: Marked) -> Result<String, AllocError> {
+    match marked {
+        Marked::Timeout => String::from_str(alloc, "timeout"),
+        Marked::Refusal => String::from_str(alloc, "store refuses next"),
+        Marked::Closed(outcome) => format!(in alloc; "closed {outcome}"),
+    }
+}
+
+/// How a mark is drawn.
+fn kind_of(marked: Marked) -> MarkKind {
+    match marked {
+        Marked::Timeout => MarkKind::Timeout,
+        Marked::Refusal => MarkKind::Refusal,
+        Marked::Closed(Outcome::Complete) => MarkKind::Completed,
+        Marked::Closed(_) => MarkKind::Failed,
     }
 }
 
@@ -394,22 +423,33 @@ fn role_of(side: Option<Side>, at: &Endpoint) -> &'static str {
     }
 }
 
-/// The endpoint of the end at this port.
-fn end_at(records: &[(u16, Record)], port: u16) -> Option<Endpoint> {
+/// The record of the end at this port.
+fn record_at(records: &[(u16, Record)], port: u16) -> Option<&Record> {
     let (_, record) = records.iter().find(|(at, _)| *at == port)?;
-    let ip = if record.side.is_client() {
+    Some(record)
+}
+
+/// The address of an end.
+fn ip_of(record: &Record) -> [u8; 4] {
+    if record.side.is_client() {
         CLIENT_IP
     } else {
         SERVER_IP
-    };
+    }
+}
+
+/// The endpoint of the end at this port.
+fn end_at(records: &[(u16, Record)], port: u16) -> Option<Endpoint> {
+    let ip = ip_of(record_at(records, port)?);
     Some(Endpoint { ip, port })
 }
 
 /// The side of the end there, if there is one.
 fn side_at(records: &[(u16, Record)], at: Endpoint) -> Option<Side> {
-    if end_at(records, at.port) != Some(at) {
-        return None;
+    let record = record_at(records, at.port)?;
+    if ip_of(record) == at.ip {
+        Some(record.side)
+    } else {
+        None
     }
-    let (_, record) = records.iter().find(|(port, _)| *port == at.port)?;
-    Some(record.side)
 }

@@ -55,19 +55,30 @@ impl Script {
             → line.number ≢ 0) }
     {
         let mut parser = Parser::new(alloc);
-        for (index, line) in text.split_inclusive(|byte| *byte == b'\n').enumerate() {
-            match parser.parse_line(line) {
-                Ok(()) => {}
-                Err(LineFault::Faulty(flaw, place)) => {
-                    return Err(ScriptFault::Line(FaultyLine {
-                        number: index + 1,
-                        flaw,
-                        place,
-                    }));
-                }
-                Err(LineFault::Memory) => return Err(ScriptFault::Memory),
-            }
+        match parse_lines(&mut parser, text) {
+            Ok(()) => Ok(parser.finish()),
+            Err(fault) => Err(fault),
         }
-        Ok(parser.finish())
     }
+}
+
+/// Parses the lines of a script, up to the first that is faulty.
+fn parse_lines(parser: &mut Parser, text: &[u8]) -> Result<(), ScriptFault>
+    ensures counted { IfErr result (λ fault. (line : FaultyLine) → fault ≡ Line line
+        → line.number ≢ 0) }
+{
+    for (index, line) in text.split_inclusive(|byte| *byte == b'\n').enumerate() {
+        match parser.parse_line(line) {
+            Ok(()) => {}
+            Err(LineFault::Faulty(flaw, place)) => {
+                return Err(ScriptFault::Line(FaultyLine {
+                    number: index + 1,
+                    flaw,
+                    place,
+                }));
+            }
+            Err(LineFault::Memory) => return Err(ScriptFault::Memory),
+        }
+    }
+    Ok(())
 }

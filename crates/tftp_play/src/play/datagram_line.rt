@@ -25,40 +25,37 @@ impl DatagramLine {
     /// The line of the datagram with this index in all that was sent, with the newline.
     pub(crate) fn show(&mut self, index: usize, datagram: &Datagram) -> Result<&[u8], AllocError> {
         self.text.clear();
-        self.text.push('#')?;
-        self.push_number(index)?;
+        self.push_number("#", index)?;
+        self.push_endpoint(" ", datagram.from)?;
+        self.push_endpoint(" > ", datagram.to)?;
         self.text.push(' ')?;
-        self.push_endpoint(datagram.from)?;
-        self.text.push_str(" > ")?;
-        self.push_endpoint(datagram.to)?;
-        self.text.push(' ')?;
-        show_datagram(datagram.bytes.as_slice(), &mut self.text).map_err(|_| AllocError)?;
+        if show_datagram(datagram.bytes.as_slice(), &mut self.text).is_err() {
+            return Err(AllocError);
+        }
         self.text.push('\n')?;
         Ok(self.text.as_bytes())
     }
 
     /// Appends an endpoint as its `Display` writes it, and faster: there are two in each line,
     /// mostly at the addresses of the two hosts.
-    fn push_endpoint(&mut self, endpoint: Endpoint) -> Result<(), AllocError> {
+    fn push_endpoint(&mut self, before: &str, endpoint: Endpoint) -> Result<(), AllocError> {
+        self.text.push_str(before)?;
+        let port = usize::from(endpoint.port);
         match endpoint.ip {
-            [10, 0, 0, 1] => self.text.push_str("10.0.0.1:")?,
-            [10, 0, 0, 2] => self.text.push_str("10.0.0.2:")?,
-            ip => self.push_address(ip)?,
+            [10, 0, 0, 1] => self.push_number("10.0.0.1:", port),
+            [10, 0, 0, 2] => self.push_number("10.0.0.2:", port),
+            [a, b, c, d] => {
+                self.push_number("", usize::from(a))?;
+                for byte in [b, c, d] {
+                    self.push_number(".", usize::from(byte))?;
+                }
+                self.push_number(":", port)
+            }
         }
-        self.push_number(usize::from(endpoint.port))
     }
 
-    /// Appends an address and the colon before its port.
-    fn push_address(&mut self, [a, b, c, d]: [u8; 4]) -> Result<(), AllocError> {
-        self.push_number(usize::from(a))?;
-        for byte in [b, c, d] {
-            self.text.push('.')?;
-            self.push_number(usize::from(byte))?;
-        }
-        self.text.push(':')
-    }
-
-    fn push_number(&mut self, number: usize) -> Result<(), AllocError> {
+    fn push_number(&mut self, before: &str, number: usize) -> Result<(), AllocError> {
+        self.text.push_str(before)?;
         self.text.push_str(self.digits.format(number))
     }
 }

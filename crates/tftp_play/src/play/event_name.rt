@@ -4,7 +4,7 @@ use std::fmt;
 use tftp_player::Event;
 
 /// Whether events are printed beside their `-`.
-#[derive(Clone, Copy, PartialEq, Eq)]
+#[derive(Clone, Copy)]
 pub(crate) enum EventNames {
     /// As the specification has it: `-` alone.
     Hidden,

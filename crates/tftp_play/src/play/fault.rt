@@ -8,16 +8,13 @@ ghost use Rattle.tftp_play.specs.declared.play.fault.PlayFault.TheVariants.{Undr
 ghost use Rattle.tftp_play.specs.declared.play.fault.PlayFault.TheVariants.{Unwritable};
 ghost use Rattle.tftp_play.specs.Play.{is_undrawn, is_unreadable, play_fault_of};
 
-use crate::play::EventNames;
 use crate::script::{FaultyLine, ScriptFault};
-use std::alloc::AllocError;
 use std::fmt;
 use std::io::{self, ErrorKind, Write};
 
-/// How a script is played: whether `-` has its event beside it, and what messages call the files.
+/// What messages call the files of a run.
 #[derive(Clone, Copy)]
 pub(crate) struct Playing<'a> {
-    pub(crate) events: EventNames,
     pub(crate) script: &'a str,
     pub(crate) picture: &'a str,
 }
@@ -26,7 +23,7 @@ pub(crate) struct Playing<'a> {
 const MOST_SHOWN: usize = 100;
 
 /// Why a script was not played to its end.
-#[derive(Clone, Copy, PartialEq, Eq)]
+#[derive(Clone, Copy)]
 pub(crate) enum PlayFault {
     /// The script could not be opened or read, for an error of this kind.
     Unreadable(ErrorKind),
@@ -77,26 +74,17 @@ impl PlayFault {
     pub(crate) fn report<E: Write>(self, how: Playing<'_>, script: &[u8], errors: &mut E) -> u8
         ensures { result ≡ 2 }
     {
-        if self != PlayFault::Closed {
-            let _ = writeln!(errors, "{self}");
-            let _ = self.write_cause(how, script, errors);
+        if let PlayFault::Closed = self {
+            return 2;
         }
-        2
-    }
-
-    /// Writes what the message leaves open.
-    fn write_cause<E: Write>(
-        self,
-        how: Playing<'_>,
-        script: &[u8],
-        errors: &mut E,
-    ) -> io::Result<()> {
-        match self {
+        let _ = writeln!(errors, "{self}");
+        let _ = match self {
             PlayFault::Unreadable(kind) => write_error(how.script, kind, errors),
             PlayFault::Undrawn(kind) => write_error(how.picture, kind, errors),
             PlayFault::Line(line) => write_flaw(line, script, errors),
             PlayFault::Unwritable | PlayFault::Closed | PlayFault::Memory => Ok(()),
-        }
+        };
+        2
     }
 }
 
@@ -141,14 +129,15 @@ impl fmt::Display for PlayFault {
     ghost output = { λ fault. Some (fault_text fault) };
 
     fn fmt<W: fmt::Write>(&self, f: &mut fmt::Formatter<W>) -> fmt::Result {
-        match self {
-            PlayFault::Unreadable(_) => write!(f, "script: unreadable"),
-            PlayFault::Line(FaultyLine { number, .. }) => write!(f, "line {number}: fault"),
-            PlayFault::Unwritable => write!(f, "output: unwritable"),
-            PlayFault::Closed => write!(f, "output: closed"),
-            PlayFault::Undrawn(_) => write!(f, "svg: unwritable"),
-            PlayFault::Memory => write!(f, "out of memory"),
-        }
+        let text = match self {
+            PlayFault::Line(FaultyLine { number, .. }) => return write!(f, "line {number}: fault"),
+            PlayFault::Unreadable(_) => "script: unreadable",
+            PlayFault::Unwritable => "output: unwritable",
+            PlayFault::Closed => "output: closed",
+            PlayFault::Undrawn(_) => "svg: unwritable",
+            PlayFault::Memory => "out of memory",
+        };
+        f.write_str(text)
     }
 }
 
@@ -160,14 +149,6 @@ impl From<ScriptFault> for PlayFault {
             ScriptFault::Line(line) => PlayFault::Line(line),
             ScriptFault::Memory => PlayFault::Memory,
         }
-    }
-}
-
-impl From<AllocError> for PlayFault {
-    ghost from_gives = { λ _ fault. fault ≡ Memory };
-
-    fn from(_error: AllocError) -> PlayFault {
-        PlayFault::Memory
     }
 }
 

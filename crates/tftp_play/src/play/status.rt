@@ -5,6 +5,7 @@ ghost use Rattle.std.specs.List.{list_all};
 ghost use Rattle.tftp_play.specs.Status.{is_done, run_status};
 ghost use Rattle.tftp_player.specs.Played.{records_from};
 
+use crate::play::Played;
 use crate::play::fault::{PlayFault, Playing};
 use std::io::Write;
 use tftp_ends::Record;
@@ -19,18 +20,18 @@ pub fn status_of(world: &World) -> u8
 
 /// The status of a run, with a message on `errors` if it failed.
 pub(crate) fn status_after<E: Write>(
-    outcome: Result<World, PlayFault>,
+    outcome: Result<Played, PlayFault>,
     how: Playing<'_>,
     script: &[u8],
     errors: &mut E,
 ) -> u8
-    ensures ok { IfOk outcome (λ world. result
-        ≡ run_status (records_from 1024 world.state.ends)) }
+    ensures ok { IfOk outcome (λ played. result
+        ≡ run_status (records_from 1024 played.world.state.ends)) }
     ensures err { IfErr outcome (λ fault. result ≡ 2) }
     ensures bound { result ≤ 2 }
 {
     match outcome {
-        Ok(world) => status_of(&world),
+        Ok(played) => status_of(&played.world),
         Err(fault) => fault.report(how, script, errors),
     }
 }

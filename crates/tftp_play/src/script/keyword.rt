@@ -10,6 +10,13 @@ pub(crate) enum Keyword {
     Set,
     /// A file of the server.
     File,
+    /// A statement of this kind.
+    Statement(StatementKind),
+}
+
+/// What a statement does.
+#[derive(Clone, Copy)]
+pub(crate) enum StatementKind {
     /// A client that reads a file.
     Get,
     /// A client that writes a file.
@@ -28,21 +35,29 @@ pub(crate) enum Keyword {
     Stray,
 }
 
+/// Each keyword, and how it is spelled.
+static KEYWORDS: [(&str, Keyword); 10] = [
+    ("set", Keyword::Set),
+    ("file", Keyword::File),
+    ("get", Keyword::Statement(StatementKind::Get)),
+    ("put", Keyword::Statement(StatementKind::Put)),
+    ("deliver", Keyword::Statement(StatementKind::Deliver)),
+    ("timeout", Keyword::Statement(StatementKind::Timeout)),
+    ("refuse", Keyword::Statement(StatementKind::Refuse)),
+    ("settle", Keyword::Statement(StatementKind::Settle)),
+    ("random", Keyword::Statement(StatementKind::Random)),
+    ("stray", Keyword::Statement(StatementKind::Stray)),
+];
+
 impl Keyword {
     /// The keyword that the word spells.
     pub(crate) fn of_word(word: &Word<'_>) -> Result<Keyword, LineFault> {
-        match word.text()? {
-            "set" => Ok(Keyword::Set),
-            "file" => Ok(Keyword::File),
-            "get" => Ok(Keyword::Get),
-            "put" => Ok(Keyword::Put),
-            "deliver" => Ok(Keyword::Deliver),
-            "timeout" => Ok(Keyword::Timeout),
-            "refuse" => Ok(Keyword::Refuse),
-            "settle" => Ok(Keyword::Settle),
-            "random" => Ok(Keyword::Random),
-            "stray" => Ok(Keyword::Stray),
-            _ => Err(word.fault(Flaw::Keyword)),
+        let text = word.text()?;
+        for (spelling, keyword) in &KEYWORDS {
+            if *spelling == text {
+                return Ok(*keyword);
+            }
         }
+        Err(word.fault(Flaw::Keyword))
     }
 }

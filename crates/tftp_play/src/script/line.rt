@@ -10,12 +10,10 @@ use crate::script::flaw::{Flaw, Word};
 use crate::script::keyword::Keyword;
 use crate::script::parser::Parser;
 use crate::script::setting::Setting;
-use crate::script::statement::{get, put, random, stray};
-use crate::script::word::{content, number, path};
-use std::alloc::{AllocError, AllocFailed, Global};
-use std::str::FromStr;
+use crate::script::statement::statement_of;
+use crate::script::word::{content, path};
+use std::alloc::{AllocError, AllocFailed};
 use tftp_file::Path;
-use tftp_player::Event;
 use tftp_wire::Bytes;
 
 /// Why a line is refused.
@@ -61,20 +59,12 @@ impl Parser {
             Keyword::Set | Keyword::File if self.has_begun => Err(first.fault(Flaw::Late)),
             Keyword::Set => self.parse_setting(arguments),
             Keyword::File => self.parse_file(arguments),
-            Keyword::Get => self.push(get(self.alloc, arguments)?),
-            Keyword::Put => {
-                let statement = put(self.alloc, arguments, &mut self.left)?;
-                self.push(statement)
+            Keyword::Statement(kind) => {
+                match statement_of(kind, self.alloc, arguments, &mut self.left) {
+                    Ok(statement) => self.push(statement),
+                    Err(fault) => Err(fault),
+                }
             }
-            Keyword::Deliver => self.push(Statement::of(Event::Deliver(only_number(arguments)?))),
-            Keyword::Timeout => self.push(Statement::of(Event::Timeout(only_number(arguments)?))),
-            Keyword::Refuse => {
-                let event = Event::RefuseStore(only_number(arguments)?);
-                self.push(Statement::of(event))
-            }
-            Keyword::Settle => self.push(Statement::Settle(only_number(arguments)?)),
-            Keyword::Random => self.push(random(arguments)?),
-            Keyword::Stray => self.push(stray(self.alloc, arguments)?),
         }
     }
 
@@ -135,17 +125,6 @@ impl Parser {
         let comment = Statement::Comment(Bytes::from_slice(self.alloc, text)?);
         self.statements.push(comment)?;
         Ok(())
-    }
-}
-
-/// The number that is the only argument.
-fn only_number<N: FromStr>(arguments: &[Word<'_>]) -> Result<N, LineFault>
-where
-    N::Err: Drop,
-{
-    match arguments {
-        [word] => number(word),
-        _ => Err(WORD_COUNT),
     }
 }
 

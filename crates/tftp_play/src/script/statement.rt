@@ -5,9 +5,11 @@ ghost use Rattle.tftp_player.specs.Arriving.{IsPlayable};
 ghost use Rattle.tftp_play.specs.Playable.{IsOfNeitherHost};
 
 use crate::script::flaw::{Flaw, Word};
+use crate::script::keyword::StatementKind;
 use crate::script::line::{LineFault, WORD_COUNT};
 use crate::script::word::{asked, bytes, content, endpoint, mode, number};
 use std::alloc::Global;
+use std::str::FromStr;
 use tftp_player::Event;
 use tftp_rules::is_foreign;
 use tftp_wire::Bytes;
@@ -54,8 +56,27 @@ impl Statement {
     }
 }
 
+/// The statement of a line of this kind.
+pub(crate) fn statement_of(
+    kind: StatementKind,
+    alloc: Global,
+    arguments: &[Word<'_>],
+    left: &mut usize,
+) -> Result<Statement, LineFault> {
+    match kind {
+        StatementKind::Get => get(alloc, arguments),
+        StatementKind::Put => put(alloc, arguments, left),
+        StatementKind::Deliver => Ok(Statement::of(Event::Deliver(only_number(arguments)?))),
+        StatementKind::Timeout => Ok(Statement::of(Event::Timeout(only_number(arguments)?))),
+        StatementKind::Refuse => Ok(Statement::of(Event::RefuseStore(only_number(arguments)?))),
+        StatementKind::Settle => Ok(Statement::Settle(only_number(arguments)?)),
+        StatementKind::Random => random(arguments),
+        StatementKind::Stray => stray(alloc, arguments),
+    }
+}
+
 /// `get NAME MODE OPTIONS`: a client reads a file.
-pub(crate) fn get(alloc: Global, arguments: &[Word<'_>]) -> Result<Statement, LineFault> {
+fn get(alloc: Global, arguments: &[Word<'_>]) -> Result<Statement, LineFault> {
     let [name, word, options @ ..] = arguments else {
         return Err(WORD_COUNT);
     };
@@ -66,11 +87,7 @@ pub(crate) fn get(alloc: Global, arguments: &[Word<'_>]) -> Result<Statement, Li
 }
 
 /// `put NAME MODE CONTENT OPTIONS`: a client writes a file.
-pub(crate) fn put(
-    alloc: Global,
-    arguments: &[Word<'_>],
-    left: &mut usize,
-) -> Result<Statement, LineFault> {
+fn put(alloc: Global, arguments: &[Word<'_>], left: &mut usize) -> Result<Statement, LineFault> {
     let [name, word, file, options @ ..] = arguments else {
         return Err(WORD_COUNT);
     };
@@ -88,7 +105,7 @@ pub(crate) fn put(
 }
 
 /// `stray FROM TO HEX`: a datagram of neither host arrives.
-pub(crate) fn stray(alloc: Global, arguments: &[Word<'_>]) -> Result<Statement, LineFault> {
+fn stray(alloc: Global, arguments: &[Word<'_>]) -> Result<Statement, LineFault> {
     let [from, to, digits] = arguments else {
         return Err(WORD_COUNT);
     };
@@ -102,7 +119,7 @@ pub(crate) fn stray(alloc: Global, arguments: &[Word<'_>]) -> Result<Statement, 
 }
 
 /// `random SEED COUNT`: that many events are drawn.
-pub(crate) fn random(arguments: &[Word<'_>]) -> Result<Statement, LineFault> {
+fn random(arguments: &[Word<'_>]) -> Result<Statement, LineFault> {
     let [seed, count] = arguments else {
         return Err(WORD_COUNT);
     };
@@ -110,4 +127,15 @@ pub(crate) fn random(arguments: &[Word<'_>]) -> Result<Statement, LineFault> {
         seed: number(seed)?,
         count: number(count)?,
     })
+}
+
+/// The number that is the only argument.
+fn only_number<N: FromStr>(arguments: &[Word<'_>]) -> Result<N, LineFault>
+where
+    N::Err: Drop,
+{
+    match arguments {
+        [word] => number(word),
+        _ => Err(WORD_COUNT),
+    }
 }

@@ -1,6 +1,6 @@
 //! The parsers of single words of a script.
 
-ghost use Rattle.std.specs.Prelude.{◌≡◌, ◌≤◌, true, codes, IfOk, vec_len};
+ghost use Rattle.std.specs.Prelude.{◌≡◌, ◌≤◌, ◌*◌, true, codes, IfOk, vec_len};
 ghost use Rattle.tftp_negotiate.specs.Asked.{IsAskable};
 ghost use Rattle.tftp_wire.specs.Modes.{mode_word};
 
@@ -110,16 +110,10 @@ fn repeated(
     ensures { IfOk result (λ bytes. vec_len bytes ≤ MAX_CONTENT) }
 {
     let mut bytes = decoded(alloc, digits, Flaw::Content)?;
-    let Some(length) = bytes.len().checked_mul(count) else {
-        return Err(digits.fault(Flaw::Content));
+    let length = match length_of(digits, bytes.len(), count, left) {
+        Ok(length) => length,
+        Err(fault) => return Err(fault),
     };
-    if length == 0 || length > MAX_CONTENT {
-        return Err(digits.fault(Flaw::Content));
-    }
-    let Some(rest) = left.checked_sub(length) else {
-        return Err(digits.fault(Flaw::Total));
-    };
-    *left = rest;
     match bytes.as_slice() {
         // `resize` fills a file of one byte faster.
         [byte] => {
@@ -129,6 +123,29 @@ fn repeated(
         }
         _ => Ok(bytes.as_slice().repeat(alloc, count)?),
     }
+}
+
+/// The length of these digits' bytes, this many times, in bytes. It is counted among the contents.
+fn length_of(
+    digits: &Word<'_>,
+    once: usize,
+    count: usize,
+    left: &mut usize,
+) -> Result<usize, LineFault>
+    ensures length { IfOk result (λ length. length ≡ once * count) }
+    ensures bound { IfOk result (λ length. length ≤ MAX_CONTENT) }
+{
+    let Some(length) = once.checked_mul(count) else {
+        return Err(digits.fault(Flaw::Content));
+    };
+    if length == 0 || length > MAX_CONTENT {
+        return Err(digits.fault(Flaw::Content));
+    }
+    let Some(rest) = left.checked_sub(length) else {
+        return Err(digits.fault(Flaw::Total));
+    };
+    *left = rest;
+    Ok(length)
 }
 
 /// The bytes of hexadecimal digits.
