@@ -6,7 +6,7 @@ use tftp_diagram::{
     shortened,
 };
 use tftp_ends::{Endpoint, Outcome, Record, Side};
-use tftp_player::{Event, Report, World};
+use tftp_player::{Datagram, Event, Report, World};
 use tftp_rules::{CLIENT_IP, SERVER_IP, is_foreign};
 use tftp_wire::show_datagram;
 
@@ -58,8 +58,9 @@ struct Sending<'a> {
     from: Endpoint,
     to: Endpoint,
     bytes: &'a [u8],
-    /// The destination of the request that a new end answers with this.
-    opened_at: Option<Endpoint>,
+    /// The endpoint of its cause, if it has one. It is another than `from` if a new end answers a
+    /// request.
+    caused_at: Option<Endpoint>,
 }
 
 impl Recording {
@@ -132,8 +133,11 @@ impl Recording {
             self.miss(cause);
             return Ok(());
         };
-        let reply = report.added.and_then(|index| world.sent().get(index));
-        let reply_to = reply.map(|datagram| datagram.to);
+        let reply = reply_of(report, world);
+        let reply_to = match reply {
+            Some(datagram) => Some(datagram.to),
+            None => None,
+        };
         let at = self.happen(cause, row, reply_to, world.records())?;
         if let Some(datagram) = reply {
             self.send(Sending {
@@ -142,7 +146,7 @@ impl Recording {
                 from: datagram.from,
                 to: datagram.to,
                 bytes: datagram.bytes.as_slice(),
-                opened_at: at.filter(|at| *at != datagram.from),
+                caused_at: at,
             })?;
         }
         if let Some((port, outcome)) = report.closed {
@@ -230,7 +234,10 @@ impl Recording {
         let Some(endpoint) = at else {
             return Ok(None);
         };
-        let reply_to = self.lane_if(reply_to)?;
+        let reply_to = match reply_to {
+            Some(to) => Some(self.lane_of(to)?),
+            None => None,
+        };
         let lane = self.lane_of(endpoint)?;
         let text = text_of(self.alloc, marked)?;
         self.diagram.marks.push(Mark {
@@ -247,7 +254,10 @@ impl Recording {
     fn send(&mut self, sending: Sending<'_>) -> Result<(), AllocError> {
         let from = self.lane_of(sending.from)?;
         let to = self.lane_of(sending.to)?;
-        let opened_at = self.lane_if(sending.opened_at)?;
+        let opened_at = match sending.caused_at {
+            Some(at) if at != sending.from => Some(self.lane_of(at)?),
+            _ => None,
+        };
         self.indices.push(sending.index)?;
         let label = label_of(self.alloc, sending.index, sending.bytes)?;
         let again = again_of(self.alloc, sending.index)?;
@@ -275,7 +285,7 @@ impl Recording {
             from,
             to,
             bytes,
-            opened_at: None,
+            caused_at: None,
         };
         if self.send(stray).is_err() {
             self.is_broken = true;
@@ -301,18 +311,15 @@ impl Recording {
         Ok(lane)
     }
 
-    /// The lane of an endpoint, if there is one.
-    fn lane_if(&mut self, at: Option<Endpoint>) -> Result<Option<usize>, AllocError> {
-        match at {
-            Some(at) => Ok(Some(self.lane_of(at)?)),
-            None => Ok(None),
-        }
-    }
-
     /// The index of the flight of this datagram.
     fn flight_of(&self, index: usize) -> Option<usize> {
         self.indices.iter().position(|it| *it == Some(index))
     }
+}
+
+/// The datagram that an event sent.
+fn reply_of<'w>(report: &Report, world: &'w World) -> Option<&'w Datagram> {
+    world.sent().get(report.added?)
 }
 
 /// The title of a picture: a network that lost nothing is not called lossy.
