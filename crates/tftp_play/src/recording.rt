@@ -313,7 +313,12 @@ impl Recording {
 
     /// The index of the flight of this datagram.
     fn flight_of(&self, index: usize) -> Option<usize> {
-        self.indices.iter().position(|it| *it == Some(index))
+        for (flight, sent) in self.indices.iter().enumerate() {
+            if *sent == Some(index) {
+                return Some(flight);
+            }
+        }
+        None
     }
 }
 
@@ -432,8 +437,12 @@ fn role_of(side: Option<Side>, at: &Endpoint) -> &'static str {
 
 /// The record of the end at this port.
 fn record_at(records: &[(u16, Record)], port: u16) -> Option<&Record> {
-    let (_, record) = records.iter().find(|(at, _)| *at == port)?;
-    Some(record)
+    for (at, record) in records {
+        if *at == port {
+            return Some(record);
+        }
+    }
+    None
 }
 
 /// The address of an end.

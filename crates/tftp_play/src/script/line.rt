@@ -52,8 +52,10 @@ impl Parser {
         let [first, arguments @ ..] = words else {
             return Err(WORD_COUNT);
         };
-        if words.iter().any(|word| word.bytes.is_empty()) {
-            return Err(LineFault::Faulty(Flaw::EmptyWord, None));
+        for word in words {
+            if word.bytes.is_empty() {
+                return Err(LineFault::Faulty(Flaw::EmptyWord, None));
+            }
         }
         match Keyword::of_word(first)? {
             Keyword::Set | Keyword::File if self.has_begun => Err(first.fault(Flaw::Late)),
