@@ -296,8 +296,10 @@ impl Recording {
 
     /// The lane of an endpoint, which is added if there is none.
     fn lane_of(&mut self, at: Endpoint) -> Result<usize, AllocError> {
-        if let Some(lane) = self.ports.iter().position(|port| *port == at) {
-            return Ok(lane);
+        for (lane, port) in self.ports.iter().enumerate() {
+            if *port == at {
+                return Ok(lane);
+            }
         }
         let lane = self.ports.len();
         self.ports.push(at)?;
