@@ -14,8 +14,8 @@ use tftp_wire::show_datagram;
 #[derive(Drop)]
 pub(crate) struct Recording {
     alloc: Global,
-    /// The picture, in which the roles of the lanes are missing until the run is over, and the title
-    /// and the summary until it is described.
+    /// The picture, in which the roles of the lanes are missing until the run is over, and the
+    /// title and the summary until it is described.
     pub(crate) diagram: Diagram,
     /// The endpoint of each lane.
     ports: Vec<Endpoint>,

@@ -59,8 +59,8 @@ pub(crate) struct ScriptRun<W: Write + Drop> {
 }
 
 impl<W: Write + Drop> ScriptRun<W> {
-    /// Executes statements one after another, and writes their effects, and at the end the record of
-    /// each end.
+    /// Executes statements one after another, and writes their effects, and then the record of each
+    /// end.
     pub(crate) fn execute_all(&mut self, statements: Vec<Statement>) -> io::Result<()> {
         for statement in statements {
             self.execute(statement)?;
@@ -163,12 +163,10 @@ fn write_end<W: Write>(output: &mut W, port: u16, record: &Record) -> io::Result
     let number = record.number;
     let complete = if record.complete { "yes" } else { "no" };
     match record.outcome {
-        Some(outcome) => {
-            writeln!(
-                output,
-                " size={size} number={number} complete={complete} {outcome}"
-            )
-        }
+        Some(outcome) => writeln!(
+            output,
+            " size={size} number={number} complete={complete} {outcome}"
+        ),
         None => writeln!(
             output,
             " size={size} number={number} complete={complete} open"
