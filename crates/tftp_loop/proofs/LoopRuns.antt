@@ -5,7 +5,7 @@ use Rattle.tftp_loop.proofs.Common.{sym, ap, subst, ◌∙◌, slice_set, slice_
 use Rattle.tftp_loop.proofs.Common.{swap_remove, SourceMeaning, Record, StoreMeaning, Outcome, TransferState}
 use Rattle.tftp_loop.proofs.Common.{ServerState, at, taken_of, without, Port, SocketEvent, TransferSocket, Run, Start}
 use Rattle.tftp_loop.proofs.Common.{Then, Timer, PortState, LoopState, PortStep, LoopStep, WorksAtPort, port_state}
-use Rattle.tftp_loop.proofs.Common.{Work, At_port, timer_of, Work_by}
+use Rattle.tftp_loop.proofs.Common.{Work, At_port, ServerLoop, state_of, timer_of, Work_by}
 use Rattle.std.proofs.lemmas.Bool.{false≢true}
 use Rattle.tftp_loop.specs.Steps.{Closes, watch_of}
 use Rattle.tftp_loop.specs.LoopStates.{close_reported, Works}
@@ -20,6 +20,14 @@ pub same_state : {S F D : Type 0} (s t : LoopState S F D)
     → s.timers ≡ t.timers → watch_of s ≡ watch_of t → s.limit ≡ t.limit → s.woken ≡ t.woken → s.marked ≡ t.marked
     → s.asked ≡ t.asked → s.drain ≡ t.drain → s.left ≡ t.left → s.rounds ≡ t.rounds → s.events ≡ t.events → s ≡ t
 same_state {S} {F} {D} s t a r o z v p b c d e l w f q n g h k = search rules
+
+-- room that is reserved is no change of the state
+pub reserved_state : {S F D : Type 0} (buffer : List ℕ) (old new : ServerLoop S F D) (events : List SocketEvent)
+    → new ≡ record old { ports = new.ports; out = new.out } → new.ports.items ≡ old.ports.items
+    → state_of buffer new events ≡ state_of buffer old events
+reserved_state buffer old new events rest same =
+    ap (λ (d : ServerLoop _ _ _). state_of buffer d events) rest
+    ∙ ap (λ (items : List (Port TransferSocket)). record (state_of buffer old events) { timers = map timer_of items }) same
 
 -- a transfer that was taken closed with an outcome
 record IsTaken {F D : Type 0} (o : Option (TransferState F D)) (closed : Option Record) : Type 0 where

@@ -1,6 +1,6 @@
 -- The loop's own values as states of its run.
 use Rattle.std.specs.Prelude.{ℕ, ◌≡◌, ◌≢◌, ◌≤◌, ◌⊎◌, ⊤, false, List, [], ◌∷◌, map, take, Option}
-use Rattle.std.specs.Prelude.{Some, None, IfSome, IfErr, Result, Err, vec_capacity}
+use Rattle.std.specs.Prelude.{Some, None, IfSome, IfErr, Result, Err, length, true, vec_capacity}
 use Rattle.tftp_file.specs.Source.{SourceMeaning}
 use Rattle.tftp_ends.specs.declared.endpoint.Endpoint.{Endpoint}
 use Rattle.tftp_store.specs.Store.{StoreMeaning}
@@ -9,6 +9,9 @@ use Rattle.tftp_server.specs.State.{ServerState}
 use Rattle.tftp_server.specs.Request.{Admits, AdmissionState}
 use Rattle.tftp_server.specs.declared.opened.Opened.{Opened}
 use Rattle.tftp_sockets.specs.declared.port.Port.{Port}
+use Rattle.tftp_sockets.specs.Bound.{IsBoundTo}
+use Rattle.tftp_sockets.specs.declared.address.TheConstants.{DATAGRAM_BUFFER}
+use Rattle.tftp_sockets.specs.declared.watch.TheConstants.{LONGEST_WAIT}
 use Rattle.tftp_sockets.specs.Trace.{SocketEvent, replied}
 use Rattle.tftp_sockets.specs.Trace.SocketEvent.{Printed, Quiet}
 use Rattle.tftp_sockets.specs.Trace.QuietEvent.{No_reader, Out_of_memory}
@@ -16,16 +19,18 @@ use Rattle.tftp_ends.specs.declared.outcome.Outcome.{Outcome}
 use Rattle.tftp_lines.specs.Printed.{line_text}
 use Rattle.tftp_lines.specs.declared.printed.Printed.TheVariants.{Closed}
 use Rattle.tftp_loop.specs.declared.drain.Drain.TheVariants.{Begun}
-use Rattle.tftp_loop.specs.declared.reserved.Reserved.{Reserved}
 use Rattle.tftp_loop.specs.declared.reserved.TheConstants.{LONGEST_ANSWER}
 use Rattle.tftp_loop.specs.declared.transfer_port.TransferSocket.{TransferSocket}
 use Rattle.tftp_loop.specs.PortOrder.{IsOneOf}
 use Rattle.tftp_loop.specs.Run.{Run}
+use Rattle.tftp_loop.specs.declared.server_loop.Buffers.{Buffers}
 use Rattle.tftp_loop.specs.declared.server_loop.ServerLoop.{ServerLoop}
+use Rattle.tftp_loop.specs.declared.serving.LoopConfig.{LoopConfig}
+use Rattle.tftp_loop.specs.declared.sockets.Sockets.{Sockets}
 use Rattle.tftp_loop.specs.declared.serving.LoopFault.{LoopFault}
 use Rattle.tftp_loop.specs.declared.serving.LoopFault.TheVariants as faults
 use Rattle.tftp_loop.specs.Steps.{Timer, PortState, PortStep, LoopState, LoopStep}
-use Rattle.tftp_loop.specs.Steps.{answering_port, with_timer}
+use Rattle.tftp_loop.specs.Steps.{answering_port, at_start, with_timer}
 use Rattle.tftp_loop.specs.Steps.LoopStep.{Waited, Clock_read}
 
 -- the timer of a port
@@ -229,7 +234,24 @@ module _ {S F D : Type 0} where
     pub same_from : admission.from ≡ from
     pub same_bytes : admission.bytes ≡ bytes
 
--- reserved: room for the ports of so many transfers, none yet, and for the longest answer
-pub record IsReserved (cap : ℕ) (reserved : Reserved) : Type 0 where
-  pub none : reserved.ports.items ≡ []
-  pub room : RoomFor cap (vec_capacity reserved.ports) (vec_capacity reserved.answer)
+  -- a loop of this configuration, whatever its history, that has done nothing: it has no transfers
+  pub record IsAtStart (config : LoopConfig) (d : ServerLoop S F D) : Type 0 where
+    pub state : (buffer : List ℕ) (events : List SocketEvent) → state_of buffer d events
+        ≡ at_start config d.sockets.requests.port d.server d.sockets.watch.reading events
+    pub none : d.ports.items ≡ []
+
+-- the sockets of this configuration are as they are bound: the watch starts, and the request port
+-- is in the poll and may have a datagram
+pub record AreBound (config : LoopConfig) (sockets : Sockets) : Type 0 where
+  pub time : sockets.watch.now ≡ 0
+  pub limit : sockets.limit ≡ LONGEST_WAIT
+  pub bound : IsBoundTo config.listen sockets.requests.ip sockets.requests.port
+  pub pool : sockets.pool ≡ record { ip = config.listen.ip; range = config.ports }
+  pub marked : sockets.is_ready ≡ true
+  pub asked : sockets.has_received ≡ false
+  pub registered : sockets.requests.is_registered ≡ true
+
+-- the buffers for a request and for a datagram of a transfer have room for the longest one
+pub record AreLong (buffers : Buffers) : Type 0 where
+  pub request : length buffers.request.items ≡ DATAGRAM_BUFFER
+  pub datagram : length buffers.datagram.items ≡ DATAGRAM_BUFFER

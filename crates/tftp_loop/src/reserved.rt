@@ -1,33 +1,30 @@
 //! What a server's loop reserves before it serves.
 
-ghost use Rattle.std.specs.Prelude.{IfOk};
-ghost use Rattle.tftp_loop.specs.LoopStates.{IsReserved};
+ghost use Rattle.std.specs.Prelude.{◌≡◌, IfOk, OnOk};
+ghost use Rattle.tftp_loop.specs.LoopStates.{AreLong, HasRoom};
 
-use crate::transfer_port::TransferPort;
-use std::alloc::{AllocError, Global};
+use crate::server_loop::{Buffers, ServerLoop};
+use std::alloc::AllocError;
+use tftp_lines::Reason;
+use tftp_store::ServedStore;
 
 /// The length of the longest answer to a request, in bytes: DATA 1 without options (RFC 1350,
 /// section 5).
 pub(crate) const LONGEST_ANSWER: usize = 516;
 
-/// What is reserved before the first request, so that none is lost for want of it.
-#[derive(Drop)]
-pub(crate) struct Reserved {
-    /// The ports of transfers: none yet.
-    pub(crate) ports: Vec<TransferPort>,
-    /// The answer to a request: none yet.
-    pub(crate) answer: Vec<u8>,
-}
-
-impl Reserved {
-    /// Room for the ports of so many transfers, and for the longest answer. It fails only when out
-    /// of memory.
-    pub(crate) fn new(alloc: Global, cap: u8) -> Result<Reserved, AllocError>
-        ensures { IfOk result (IsReserved cap) }
+impl<S: ServedStore<Reason> + Drop> ServerLoop<S> {
+    /// Reserves room for the ports of as many transfers as the server may hold, and for the longest
+    /// answer, so that no request is lost for want of it, and makes the buffers. It fails only when
+    /// out of memory.
+    pub(crate) fn reserve(&mut self) -> Result<Buffers, AllocError>
+        ensures room { OnOk result (HasRoom self.new) }
+        ensures long { IfOk result AreLong }
+        ensures ports { self.new.ports.items ≡ self.old.ports.items }
+        ensures rest { self.new
+            ≡ record self.old { ports = self.new.ports; out = self.new.out } }
     {
-        Ok(Reserved {
-            ports: Vec::with_capacity(alloc, usize::from(cap))?,
-            answer: Vec::with_capacity(alloc, LONGEST_ANSWER)?,
-        })
+        self.ports.try_reserve(usize::from(self.server.cap()))?;
+        self.out.try_reserve(LONGEST_ANSWER)?;
+        Buffers::new(self.alloc)
     }
 }

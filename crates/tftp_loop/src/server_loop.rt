@@ -6,8 +6,9 @@ ghost use Rattle.std.specs.List.{list_any};
 ghost use Rattle.tftp_sockets.specs.declared.address.TheConstants.{DATAGRAM_BUFFER};
 ghost use Rattle.tftp_sockets.specs.Trace.{SocketEvent};
 ghost use Rattle.tftp_sockets.specs.Quiet.{is_among};
-ghost use Rattle.tftp_loop.specs.Steps.{drain_of, marked_by, set_by};
-ghost use Rattle.tftp_loop.specs.LoopStates.{FailsToPrint, HasRoom, IsEmptied, IsReserved};
+ghost use Rattle.tftp_loop.specs.Steps.{marked_by, set_by};
+ghost use Rattle.tftp_loop.specs.LoopStates.{AreBound, AreLong, FailsToPrint, HasRoom};
+ghost use Rattle.tftp_loop.specs.LoopStates.{IsAtStart, IsEmptied};
 ghost use Rattle.tftp_loop.specs.LoopStates.{EndsRounds, OnlyServes, OnlyWorks};
 ghost use Rattle.tftp_loop.specs.LoopStates.{WorksRound};
 ghost use Rattle.tftp_loop.specs.MayWait.{ClosesPort, Finishes, HasRead, HasSlept, HasWoken};
@@ -20,7 +21,6 @@ use crate::drain::Drain;
 use crate::log::Log;
 use crate::port_visit::{Moment, Pass, is_visited, visit_port};
 use crate::report::{log_drain, log_unsent, record_of_closed, report_close, report_open};
-use crate::reserved::Reserved;
 use crate::serving::{LoopConfig, LoopFault};
 use crate::sockets::Sockets;
 use crate::transfer_port::{Survey, TransferPort, wake_all, work_at};
@@ -80,10 +80,7 @@ impl Buffers {
     /// Buffers with room for the longest datagrams: a shorter one would cut a DATA, which then
     /// counts as the last block (RFC 1350, section 6).
     pub(crate) fn new(alloc: Global) -> Result<Buffers, AllocError>
-        ensures request { IfOk result (λ buffers.
-            length buffers.request.items ≡ DATAGRAM_BUFFER) }
-        ensures datagram { IfOk result (λ buffers.
-            length buffers.datagram.items ≡ DATAGRAM_BUFFER) }
+        ensures { IfOk result AreLong }
     {
         Ok(Buffers {
             reports: Reports::new(alloc, MOST_REPORTS)?,
@@ -101,41 +98,24 @@ fn buffer(alloc: Global, size: usize) -> Result<Vec<u8>, AllocError>
 }
 
 impl<S: ServedStore<Reason> + Drop> ServerLoop<S> {
-    /// A server without ports of transfers.
+    /// A server without ports of transfers, and without room for them.
     pub(crate) fn new(
         alloc: Global,
         server: Server<S>,
         sockets: Sockets,
         config: &LoopConfig,
-        reserved: Reserved,
     ) -> ServerLoop<S>
-        // What it is made of.
-        requires { IsReserved server.config.cap reserved }
+        requires { AreBound config.now sockets }
         ensures server { result.server ≡ server }
         ensures sockets { result.sockets ≡ sockets }
-        // It has no transfers yet.
-        ensures ports { result.ports.items ≡ [] }
-        ensures pending { result.pending ≡ None }
-        // When it ends.
-        ensures left { result.left ≡ config.now.ending.transfers }
-        ensures rounds { result.rounds ≡ config.now.ending.rounds }
-        // How it treats transfers.
-        ensures longest { result.longest ≡ config.now.longest }
-        ensures backoff { result.backoff ≡ config.now.backoff }
-        // How it treats requests.
-        ensures requests_only { result.requests_only ≡ config.now.requests_only }
-        ensures per_client { result.per_client ≡ config.now.per_client }
-        ensures drain { result.drain ≡ drain_of config.now.drains }
-        // There is room for the ports.
-        ensures room { HasRoom result }
+        ensures starts { IsAtStart config.now result }
     {
-        let Reserved { ports, answer } = reserved;
         let log = Log::new(config, sockets.listening());
         ServerLoop {
             server,
             sockets,
-            ports,
-            out: answer,
+            ports: Vec::new(alloc),
+            out: Vec::new(alloc),
             pending: None,
             active: 0,
             left: config.ending.transfers,
@@ -177,21 +157,33 @@ impl<S: ServedStore<Reason> + Drop> ServerLoop<S> {
         // What stays.
         ensures file { N.file net.new ≡ N.file net.old }
     {
-        self.take_round(net, signal, request, datagram)?;
-        while self.rounds > 0 {
-            if self.left == 0 {
-                return Ok(());
-            }
-            if self.is_emptied() {
+        loop {
+            self.take_round(net, signal, request, datagram)?;
+            if self.is_over() {
                 return Ok(());
             }
             self.wait(net, reports);
             if net.has_no_reader() {
                 return Err(LoopFault::NoReader);
             }
-            self.take_round(net, signal, request, datagram)?;
         }
-        Ok(())
+    }
+
+    /// Whether the end of the configuration is reached: no transfer is yet to close, no wait may
+    /// begin, or the server has drained.
+    fn is_over(&self) -> bool
+        ensures over { IsTrue result
+            → (self.now.left ≡ 0) ⊎ ((self.now.rounds ≡ 0) ⊎ IsEmptied self.now) }
+        ensures left { result ≡ false → 1 ≤ self.now.left }
+        ensures rounds { result ≡ false → 1 ≤ self.now.rounds }
+    {
+        if self.left == 0 {
+            return true;
+        }
+        if self.rounds == 0 {
+            return true;
+        }
+        self.is_emptied()
     }
 
     /// Begins to drain if that is signalled, and then handles datagrams and due timeouts, until no

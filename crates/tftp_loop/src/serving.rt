@@ -1,18 +1,18 @@
 //! Serves over UDP, from the bind of the request port to the end.
 
-ghost use Rattle.std.specs.Prelude.{◌≡◌, true, false};
+ghost use Rattle.std.specs.Prelude.{◌≡◌};
+ghost use Rattle.tftp_loop.specs.LoopStates.{IsAtStart};
 ghost use Rattle.tftp_loop.specs.WholeRun.{RunsServer, RunsServerFrom, listening};
 
 use crate::port_order::PortRange;
 use crate::report::log_listening;
-use crate::reserved::Reserved;
-use crate::server_loop::{Buffers, ServerLoop};
+use crate::server_loop::ServerLoop;
 use crate::sockets::Sockets;
 use std::alloc::Global;
 use tftp_ends::{Backoff, Endpoint};
 use tftp_lines::{Printed, Reason, reason_of};
 use tftp_server::Server;
-use tftp_sockets::{DrainSignal, LONGEST_WAIT, ServerUdp};
+use tftp_sockets::{DrainSignal, ServerUdp};
 use tftp_store::ServedStore;
 
 /// The configuration of a server's loop.
@@ -95,80 +95,46 @@ pub fn serve<N: ServerUdp + Eprint, S: ServedStore<Reason> + Drop, D: DrainSigna
     ensures file { N.file net.new ≡ N.file net.old }
 {
     match Sockets::bind(&*net, alloc, config) {
-        Ok(sockets) => listen(net, alloc, server, sockets, config, signal),
+        Ok(sockets) => {
+            let mut running = ServerLoop::new(alloc, server, sockets, config);
+            running.listen(net, config, signal)
+        }
         Err(error) => Err(LoopFault::Socket(reason_of(&error))),
     }
 }
 
-/// Prints the endpoint of the request port, and serves it.
-fn listen<N: ServerUdp + Eprint, S: ServedStore<Reason> + Drop, D: DrainSignal>(
-    net: &mut N,
-    alloc: Global,
-    server: Server<S>,
-    sockets: Sockets,
-    config: &LoopConfig,
-    signal: &D,
-) -> Result<(), LoopFault>
-    // The sockets are as they were bound.
-    requires time { sockets.watch.now ≡ 0 }
-    requires limit { sockets.limit ≡ LONGEST_WAIT }
-    requires marked { sockets.is_ready ≡ true }
-    requires asked { sockets.has_received ≡ false }
-    // They are those of the configuration.
-    requires range { sockets.pool.range ≡ config.now.ports }
-    // What the server does.
-    ensures runs { RunsServerFrom S.meaning S.Source.meaning config.now sockets.requests.port server
-        result (listening sockets.requests.ip sockets.requests.port (N.log net.old))
-        (N.log net.new) }
-    ensures file { N.file net.new ≡ N.file net.old }
-{
-    let line = Printed::Listening(sockets.listening());
-    match net.print_line(line) {
-        Ok(()) => {
-            log_listening(&*net, config, line);
-            run(net, alloc, server, sockets, config, signal)
+impl<S: ServedStore<Reason> + Drop> ServerLoop<S> {
+    /// Prints the endpoint of the request port, and serves it.
+    fn listen<N: ServerUdp + Eprint, D: DrainSignal>(
+        &mut self,
+        net: &mut N,
+        config: &LoopConfig,
+        signal: &D,
+    ) -> Result<(), LoopFault>
+        requires { IsAtStart config.now self.old }
+        ensures runs { RunsServerFrom S.meaning S.Source.meaning config.now
+            self.old.sockets.requests.port self.old.server result
+            (listening self.old.sockets.requests.ip self.old.sockets.requests.port (N.log net.old))
+            (N.log net.new) }
+        ensures file { N.file net.new ≡ N.file net.old }
+    {
+        let line = Printed::Listening(self.sockets.listening());
+        if net.print_line(line).is_err() {
+            return Err(LoopFault::Output);
         }
-        Err(_) => Err(LoopFault::Output),
+        log_listening(&*net, config, line);
+        let Ok(mut buffers) = self.reserve() else {
+            net.out_of_memory();
+            return Err(LoopFault::Memory);
+        };
+        let served = self.take_rounds(
+            net,
+            signal,
+            &mut buffers.reports,
+            buffers.request.as_mut_slice(),
+            buffers.datagram.as_mut_slice(),
+        );
+        self.report(net);
+        served
     }
-}
-
-/// Serves the request port.
-fn run<N: ServerUdp + Eprint, S: ServedStore<Reason> + Drop, D: DrainSignal>(
-    net: &mut N,
-    alloc: Global,
-    server: Server<S>,
-    sockets: Sockets,
-    config: &LoopConfig,
-    signal: &D,
-) -> Result<(), LoopFault>
-    // The sockets are as they were bound.
-    requires time { sockets.watch.now ≡ 0 }
-    requires limit { sockets.limit ≡ LONGEST_WAIT }
-    requires marked { sockets.is_ready ≡ true }
-    requires asked { sockets.has_received ≡ false }
-    // They are those of the configuration.
-    requires range { sockets.pool.range ≡ config.now.ports }
-    // What the server does.
-    ensures runs { RunsServerFrom S.meaning S.Source.meaning config.now sockets.requests.port server
-        result (N.log net.old) (N.log net.new) }
-    ensures file { N.file net.new ≡ N.file net.old }
-{
-    let Ok(mut buffers) = Buffers::new(alloc) else {
-        net.out_of_memory();
-        return Err(LoopFault::Memory);
-    };
-    let Ok(reserved) = Reserved::new(alloc, server.cap()) else {
-        net.out_of_memory();
-        return Err(LoopFault::Memory);
-    };
-    let mut running = ServerLoop::new(alloc, server, sockets, config, reserved);
-    let served = running.take_rounds(
-        net,
-        signal,
-        &mut buffers.reports,
-        buffers.request.as_mut_slice(),
-        buffers.datagram.as_mut_slice(),
-    );
-    running.report(net);
-    served
 }

@@ -2,9 +2,9 @@
 
 ghost use Rattle.std.specs.Prelude.{◌≡◌, ◌||◌, true, false, IfOk, IfSome, OnOk};
 ghost use Rattle.tftp_server.specs.Port.{asks_store};
-ghost use Rattle.tftp_sockets.specs.Bound.{IsBoundTo};
 ghost use Rattle.tftp_sockets.specs.Quiet.{is_among};
 ghost use Rattle.tftp_loop.specs.PortPool.{IsOfPool, Tries, most_of};
+ghost use Rattle.tftp_loop.specs.LoopStates.{AreBound};
 ghost use Rattle.tftp_loop.specs.Steps.{round_end};
 
 use crate::port_pool::PortPool;
@@ -42,18 +42,7 @@ impl Sockets {
         alloc: Global,
         config: &LoopConfig,
     ) -> io::Result<Sockets>
-        // The watch starts.
-        ensures time { IfOk result (λ sockets. sockets.watch.now ≡ 0) }
-        ensures limit { IfOk result (λ sockets. sockets.limit ≡ LONGEST_WAIT) }
-        // Which ports are bound.
-        ensures bound { IfOk result (λ sockets.
-            IsBoundTo config.now.listen sockets.requests.ip sockets.requests.port) }
-        ensures pool { IfOk result (λ sockets. sockets.pool
-            ≡ record { ip = config.now.listen.ip; range = config.now.ports }) }
-        // The request port may have a datagram, and is in the poll.
-        ensures marked { IfOk result (λ sockets. sockets.is_ready ≡ true) }
-        ensures asked { IfOk result (λ sockets. sockets.has_received ≡ false) }
-        ensures registered { IfOk result (λ sockets. sockets.requests.is_registered ≡ true) }
+        ensures { IfOk result (AreBound config.now) }
     {
         let mut requests = net.bind(config.listen)?;
         let poll = poll_for(net, &mut requests)?;
