@@ -17,6 +17,7 @@ use Rattle.tftp_server.specs.declared.opened.Opened.{Opened}
 use Rattle.tftp_sockets.specs.Trace.QuietEvent.{Out_of_memory}
 use Rattle.tftp_loop.specs.OnlyRequests.{IsHandledBy, begins_as_request}
 use Rattle.tftp_loop.specs.PortPool.{Binds, TriesInVain}
+use Rattle.tftp_loop.specs.RequestActions.{refused_bytes, refused_to}
 use Rattle.tftp_loop.specs.MayOpen.{LacksMemoryToOpen, MayOpen}
 use Rattle.tftp_loop.specs.Steps.{IsSet, RequestLoss, No_answer, No_request}
 use Rattle.tftp_loop.specs.Steps.{No_memory_to_open, No_port}
@@ -26,16 +27,6 @@ use Rattle.tftp_loop.specs.MayWait.{Prepares, Notes_it, Sets_store}
 use Rattle.tftp_loop.proofs.RunLemmas.{once, onward}
 use Rattle.tftp_loop.proofs.LoopRuns.{Runs}
 use Rattle.tftp_loop.proofs.Tables.{free_identifier}
-
--- where the answer to a datagram goes for which no store is asked, and what it is
-abbrev pub refused_to : Endpoint → Option ErrorReply → Option Endpoint
-refused_to from None = None
-refused_to from (Some reply) = Some from
-
--- the bytes of a refusal, or none
-abbrev pub refused_bytes : Option ErrorReply → List ℕ
-refused_bytes None = []
-refused_bytes (Some reply) = error_bytes reply
 
 -- the one holds, and the other does not
 and_not : (one other : Bool) → (one && not other) ≡ true → (one ≡ true) × (other ≡ false)

@@ -10,6 +10,7 @@ ghost use Rattle.tftp_server.specs.State.{at};
 ghost use Rattle.tftp_sockets.specs.declared.address.TheConstants.{DATAGRAM_BUFFER};
 ghost use Rattle.tftp_sockets.specs.Told.{and_told};
 ghost use Rattle.tftp_sockets.specs.declared.entry.Entry.TheVariants.{Opened as Opened_by};
+ghost use Rattle.tftp_sockets.specs.Trace.{replied};
 ghost use Rattle.tftp_sockets.specs.Trace.SocketEvent.{Quiet};
 ghost use Rattle.tftp_sockets.specs.Trace.QuietEvent.{Out_of_memory};
 ghost use Rattle.tftp_loop.specs.PortOrder.{IsOneOf};
@@ -17,9 +18,10 @@ ghost use Rattle.tftp_loop.specs.PortPool.{IsOfPool, most_of};
 ghost use Rattle.tftp_loop.specs.Steps.{IsSet, answering_port, has_most, interval_at, started};
 ghost use Rattle.tftp_loop.specs.Steps.{with_timer};
 ghost use Rattle.tftp_loop.specs.OnlyRequests.{IsHandledBy, begins_as_request};
-ghost use Rattle.tftp_loop.specs.RequestActions.{IsActionOn, may_open_later};
+ghost use Rattle.tftp_loop.specs.RequestActions.{IsActionOn, IsOpening, may_open_later};
+ghost use Rattle.tftp_loop.specs.RequestActions.{refused_bytes, refused_to};
 ghost use Rattle.tftp_loop.specs.Longest.{IsBoundedFor, longest_in};
-ghost use Rattle.tftp_loop.specs.LoopStates.{HasAnswered, HasRoom, IsAdmission, WorksRound, timer_of};
+ghost use Rattle.tftp_loop.specs.LoopStates.{HasAnswered, HasRoom, WorksRound, timer_of};
 ghost use Rattle.tftp_loop.specs.MayWait.{AnswersPending, HandlesReceived, HasTriedRequests};
 ghost use Rattle.tftp_loop.specs.MayWait.{HasFew, IsSettled, reads_of, timers_of};
 ghost use Rattle.tftp_loop.specs.Told.{IsToldOnce, IsToldUnlessKept, direction_asked, unopened_entry};
@@ -28,12 +30,12 @@ ghost use Rattle.tftp_loop.specs.declared.port_visit.TheConstants.{MOST_AT_ONCE}
 use crate::datagram::Datagram;
 use crate::log_entry::{LogEntry, reason_unasked};
 use crate::report::{
-    Refusal, count_opened, count_unopened, log_lost, log_refused, log_unopened, log_unsent_answer,
+    Refusal, count_opened, count_unopened, log_lost, log_refused, log_unsent_answer,
 };
 use crate::server_loop::ServerLoop;
 use crate::sockets::Sockets;
 use crate::transfer_port::{TransferPort, TransferSocket, age_limit, next_look, open_of, reply};
-use tftp_ends::{DEFAULT_INTERVAL, Endpoint};
+use tftp_ends::{DEFAULT_INTERVAL, Endpoint, ErrorReply};
 use tftp_lines::{Lost, Reason};
 use tftp_server::{Admission, Opened, Server, Store};
 use tftp_sockets::{Entry, Load, Port, Receipt, ServerSocket, ServerUdp, deadline};
@@ -51,8 +53,8 @@ enum RequestAction<'a> {
     NoMemory,
     /// It is lost, because its client's address has this many transfers open, and may have no more.
     TooMany(u8),
-    /// It opens no transfer.
-    Refuse(Admission<'a>),
+    /// It opens no transfer, and gets this answer, if any.
+    Refuse(Option<ErrorReply>),
     /// It may open a transfer.
     Open(Admission<'a>),
 }
@@ -230,7 +232,7 @@ impl<S: ServedStore<Reason> + Drop> ServerLoop<S> {
             return RequestAction::NoMemory;
         };
         if !admission.may_open() {
-            return RequestAction::Refuse(admission);
+            return RequestAction::Refuse(admission.refusal());
         }
         match self.most_reached(datagram.from) {
             Some(most) => RequestAction::TooMany(most),
@@ -259,10 +261,10 @@ impl<S: ServedStore<Reason> + Drop> ServerLoop<S> {
         ensures file { N.file net.new ≡ N.file net.old }
     {
         match action {
-            RequestAction::Ignore => self.ignore(net, datagram),
+            RequestAction::Ignore => self.refuse(net, datagram, None),
             RequestAction::NoMemory => self.lose_for_memory(net, datagram),
             RequestAction::TooMany(most) => self.lose(net, datagram, Lost::Client(most)),
-            RequestAction::Refuse(admission) => self.refuse_request(net, datagram, admission),
+            RequestAction::Refuse(reply) => self.refuse(net, datagram, reply),
             RequestAction::Open(admission) => self.open_request(net, datagram, admission),
         }
     }
@@ -275,18 +277,6 @@ impl<S: ServedStore<Reason> + Drop> ServerLoop<S> {
         ensures handled { result ≡ false → IsHandledBy self.now.requests_only bytes.now }
     {
         self.requests_only && !begins_as_request(bytes)
-    }
-
-    /// Counts a datagram that gets no answer, and logs it, if there is a log.
-    fn ignore<N: ServerUdp + Eprint>(&self, net: &mut N, datagram: Datagram<'_>)
-        ensures events { N.log net.new ≡ N.log net.old }
-        ensures told { N.told net.new ≡ and_told Entry.Ignored (N.told net.old) }
-        ensures file { N.file net.new ≡ N.file net.old }
-    {
-        net.count(Entry::Ignored);
-        if self.log.is_written {
-            log_unopened(&*net, self.alloc, self.log, datagram, &[], None);
-        }
     }
 
     /// The most transfers of one address, if that of this endpoint has so many open.
@@ -310,11 +300,8 @@ impl<S: ServedStore<Reason> + Drop> ServerLoop<S> {
         datagram: Datagram<'_>,
         admission: Admission<'_>,
     )
-        // The datagram and its admission.
-        requires admitted { IsAdmission self.old.server datagram.from datagram.bytes.now admission }
-        requires may_open { asks_store admission.ask ≡ true }
-        requires handled { IsHandledBy self.old.requests_only datagram.bytes.now }
-        requires few { has_most self.old.per_client datagram.from (timers_of self.old) ≡ false }
+        // The datagram may open a transfer by this admission.
+        requires action { IsOpening self.old datagram.from datagram.bytes.now admission }
         // The loop before the call.
         requires room { HasRoom self.old }
         requires reserved { vec_len self.old.ports < vec_capacity self.old.ports }
@@ -348,11 +335,8 @@ impl<S: ServedStore<Reason> + Drop> ServerLoop<S> {
         admission: Admission<'_>,
         bound: ServerSocket,
     )
-        // The datagram and its admission.
-        requires admitted { IsAdmission self.old.server datagram.from datagram.bytes.now admission }
-        requires may_open { asks_store admission.ask ≡ true }
-        requires handled { IsHandledBy self.old.requests_only datagram.bytes.now }
-        requires few { has_most self.old.per_client datagram.from (timers_of self.old) ≡ false }
+        // The datagram may open a transfer by this admission.
+        requires action { IsOpening self.old datagram.from datagram.bytes.now admission }
         // The port is of the pool, and nobody has it.
         requires port { IsOfPool self.old.sockets.pool bound }
         requires own { bound.port ≢ self.old.sockets.requests.port }
@@ -410,27 +394,20 @@ impl<S: ServedStore<Reason> + Drop> ServerLoop<S> {
         }
     }
 
-    /// Carries out the admission of a datagram that opens no transfer.
-    fn refuse_request<N: ServerUdp + Eprint>(
-        &mut self,
+    /// Sends this answer, if any, to a datagram that opens no transfer.
+    fn refuse<N: ServerUdp + Eprint>(
+        &self,
         net: &mut N,
         datagram: Datagram<'_>,
-        admission: Admission<'_>,
+        reply: Option<ErrorReply>,
     )
-        // The datagram and its admission.
-        requires admitted { IsAdmission self.old.server datagram.from datagram.bytes.now admission }
-        requires opens_none { asks_store admission.ask ≡ false }
-        requires handled { IsHandledBy self.old.requests_only datagram.bytes.now }
-        // What happens to the datagram.
-        ensures answers { AnswersPending S.meaning S.Source.meaning datagram.entry.from
-            datagram.entry.bytes.now self.old (N.log net.old) self.new (N.log net.new) }
-        ensures told { IsToldOnce (N.told net.old) (N.told net.new) }
-        // What stays.
-        ensures rounds { self.new.rounds ≡ self.old.rounds }
-        ensures room { HasRoom self.old → HasRoom self.new }
+        ensures events { N.log net.new ≡ replied self.now.sockets.requests.port
+            (refused_to datagram.entry.from reply) (refused_bytes reply) (N.log net.old) }
+        ensures told { N.told net.new
+            ≡ and_told (unopened_entry (refused_bytes reply)) (N.told net.old) }
         ensures file { N.file net.new ≡ N.file net.old }
     {
-        match admission.refusal() {
+        match reply {
             Some(reply) => {
                 let answer = reply.datagram();
                 let reason = reason_unasked(answer);

@@ -14,9 +14,9 @@ returns-in-Ok-clause-answers g c =
     let d = c.args.datagram in
     let a = c.answer_opened.ensures.answers in
     let free = is_free _ (λ h. ok-err _ _ (c.in-Ok.ensures.in_use.1 h)) in
-    sets_and_answers _ _ _ _ _ _ _ _ _ _ _ _ _ refl c.requires.admitted c.requires.handled c.set_store.ensures.rest
+    sets_and_answers _ _ _ _ _ _ _ _ _ _ _ _ _ refl c.requires.action.admitted c.requires.action.handled c.set_store.ensures.rest
     c.set_store.ensures.same c.set_store.ensures.behind c.in-Ok.ensures.carries_out free a.port a.own
-    c.set_store.ensures.set c.requires.few c.clear.ensures.items (same_state _ _ a.requests a.range a.longest a.backoff
+    c.set_store.ensures.set c.requires.action.few c.clear.ensures.items (same_state _ _ a.requests a.range a.longest a.backoff
     a.requests_only a.per_client a.server refl a.timers a.watch a.limit refl a.marked a.asked a.drain a.left_to_close
     a.rounds a.events)
 
@@ -34,7 +34,7 @@ returns-in-Err-clause-answers g c =
     let is_memory = memory_if_free _ _ free why.in_use.0 why.fault in
     let s = loop_state (Some (d.from, d.bytes.now)) c.args.self.now (g.N.Udp.log c.args.net.now) in
     sets_and_loses _ _ s _ _ _ _ refl c.set_store.ensures.rest c.set_store.ensures.same c.set_store.ensures.behind
-    (lacks_to_open _ _ _ _ _ _ _ _ _ c.set_store.ensures.rest c.requires.admitted c.clear.ensures.len (let capacity
+    (lacks_to_open _ _ _ _ _ _ _ _ _ c.set_store.ensures.rest c.requires.action.admitted c.clear.ensures.len (let capacity
     = c.clear.ensures.capacity in let longest = c.requires.room.longest in omega (arith, capacity, longest)) (why.why
     is_memory)) (same_state _ _ refl refl refl refl refl refl why.err.0 refl refl refl refl refl refl refl refl refl
     refl lost)

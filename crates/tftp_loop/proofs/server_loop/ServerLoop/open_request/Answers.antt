@@ -16,7 +16,7 @@ returns-in_default-clause-answers g c =
     let same = c.port_for.ensures.same in
     let s = loop_state (Some (d.from, d.bytes.now)) c.args.self.now (g.N.Udp.log c.args.net.now) in
     let opens =
-    may_open g.S.Store.meaning g.S.Source.Source.meaning _ _ _ _ _ refl c.requires.admitted c.requires.may_open in
+    may_open g.S.Store.meaning g.S.Source.Source.meaning _ _ _ _ _ refl c.requires.action.admitted c.requires.action.may_open in
     tries_in_vain g.S.Store.meaning g.S.Source.Source.meaning s _ _ _ _ refl opens c.in_default.ensures.tries
     (same_state _ _ (ap (λ s. s.requests.port) same) (ap (λ s. s.pool.range) same) refl refl refl refl refl refl refl
     (ap (λ s. s.watch) same) (ap (λ s. s.limit) same) refl (ap (λ s. s.is_ready) same) (ap (λ s. s.has_received) same)
@@ -29,7 +29,7 @@ returns-then-is_taken-clause-answers g c =
     let s = loop_state (Some (d.from, d.bytes.now)) c.args.self.now (g.N.Udp.log c.args.net.now) in
     let opens =
     may_open g.S.Store.meaning g.S.Source.Source.meaning c.args.self.now.server c.args.self.now.server d.from
-    d.bytes.now c.args.admission refl c.requires.admitted c.requires.may_open in
+    d.bytes.now c.args.admission refl c.requires.action.admitted c.requires.action.may_open in
     let taken : is_taken s c.in-Some.bound.port ≡ true = search rules in
     binds_in_vain g.S.Store.meaning g.S.Source.Source.meaning s _ d.from d.bytes.now (g.N.Udp.log c.port_for.new.net)
     c.in-Some.bound.port refl opens c.in-Some.ensures.port.port c.in-Some.ensures.tries taken (same_state _ _ (ap (λ (s
@@ -43,7 +43,7 @@ returns-clause-answers g c =
     let same = c.port_for.ensures.same in
     let s = loop_state (Some (d.from, d.bytes.now)) c.args.self.now (g.N.Udp.log c.args.net.now) in
     let opens =
-    may_open g.S.Store.meaning g.S.Source.Source.meaning _ _ _ _ _ refl c.requires.admitted c.requires.may_open in
+    may_open g.S.Store.meaning g.S.Source.Source.meaning _ _ _ _ _ refl c.requires.action.admitted c.requires.action.may_open in
     let tried : LoopState _ _ _ = record s { events = g.N.Udp.log c.port_for.new.net } in
     prepares_first _ _ s _ _ (bound_as g.S.Store.meaning g.S.Source.Source.meaning s _ _ refl opens _ _ _
     c.in-Some.ensures.port.port c.in-Some.ensures.tries) (subst (λ (u : LoopState _ _ _). Concludes g.S.Store.meaning
