@@ -3,10 +3,9 @@ use Rattle.std.specs.Prelude.{ℕ, ◌≡◌, ◌≤◌, ◌<◌, ◌+◌, ◌-�
 use Rattle.std.specs.Prelude.{List, ◌∷◌, map, min, max}
 use Rattle.std.specs.Prelude.{length, take, slice_set, slice_index_or, Option, Some, None, is_some}
 use Rattle.std.specs.Prelude.{Bool, IsSome, All, if◌then◌else◌}
-use Rattle.std.specs.List.{list_any, swap_remove}
+use Rattle.std.specs.List.{list_any}
 use Rattle.tftp_file.specs.Source.{SourceMeaning}
 use Rattle.tftp_ends.specs.declared.endpoint.Endpoint.{Endpoint}
-use Rattle.tftp_ends.specs.declared.record.Record.{Record}
 use Rattle.tftp_ends.specs.declared.record.Step.{Step}
 use Rattle.tftp_store.specs.Store.{StoreMeaning}
 use Rattle.tftp_server.specs.State.{TransferState, at, taken_of}
@@ -31,7 +30,7 @@ use Rattle.tftp_loop.specs.Steps.{Timer, PortState, LoopState, AnswersRequest, C
 use Rattle.tftp_loop.specs.Steps.{LosesRequest}
 use Rattle.tftp_loop.specs.Steps.{NotesRequest, SetsStore, deadline_by, next_look, marked_by}
 use Rattle.tftp_loop.specs.Steps.{is_draining, reads_requests, round_end, set_by, wait_in}
-use Rattle.tftp_loop.specs.LoopStates.{HasRoom, OnlyServesPort, close_reported, loop_state}
+use Rattle.tftp_loop.specs.LoopStates.{HasRoom, OnlyServes, OnlyServesPort, loop_state}
 use Rattle.tftp_loop.specs.LoopStates.{state_of, timer_of}
 
 -- ---- timers
@@ -186,6 +185,12 @@ module _ {S F D : Type 0} where
     pub timed : AreTimed 0 d
     pub requests : HasTriedRequests d events
 
+  -- a wait may begin: all is done before it, a transfer is yet to close, and a wait is left
+  pub record MayWait (d : ServerLoop S F D) (events : List SocketEvent) : Type 0 where
+    pub tended : IsTended d events
+    pub left : 1 ≤ d.left
+    pub rounds : 1 ≤ d.rounds
+
   -- the longest wait of a server, in milliseconds
   abbrev pub millis_of : ServerLoop S F D → ℕ
   millis_of d =
@@ -306,18 +311,17 @@ module _ {S F D : Type 0} where
   abbrev pub IsOpenAt : ℕ → ServerLoop S F D → Type 0
   IsOpenAt index d = (t : Timer) → IsOpen d.server.held (slice_index_or (timers_of d) index t)
 
-  -- the port at this index is removed, and the outcome of its transfer is printed
-  pub record ClosesPort (index : ℕ) (closed : Option Record) (old : ServerLoop S F D)
-      (before : List SocketEvent) (new : ServerLoop S F D) (after : List SocketEvent)
-      : Type 0 where
-    pub port : Port TransferSocket
-    pub is_port : port ≡ slice_index_or old.ports.items index port
-    pub items : new.ports.items ≡ swap_remove old.ports.items index port
-    pub events : after ≡ close_reported port.socket.udp.port port.socket.peer closed before
-    pub rest : new ≡ record old { ports = new.ports; left = old.left - 1 }
-    pub room : HasRoom old → HasRoom new
-
   module _ (meaning : StoreMeaning S D) (sources : SourceMeaning F) where
+    -- a server waited once, and a round may follow
+    pub record HasWaited (old : ServerLoop S F D) (before : List SocketEvent)
+        (new : ServerLoop S F D) (after : List SocketEvent) : Type 0 where
+      pub serves : OnlyServes meaning sources old before new after
+      pub settled : IsSettled new
+      pub few : HasFew 0 new
+      pub first : new.sockets.has_received ≡ false
+      pub rounds : new.rounds + 1 ≡ old.rounds
+      pub room : HasRoom old → HasRoom new
+
     -- a visit of the port at this index
     pub record VisitsPort (leaves : PortState S F D → ℕ → Type 0) (index : ℕ)
         (old : ServerLoop S F D) (before : List SocketEvent) (new : ServerLoop S F D)

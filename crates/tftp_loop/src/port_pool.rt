@@ -2,7 +2,7 @@
 
 ghost use Rattle.std.specs.Prelude.{◌≡◌, IfOk, IfSome, IsSome, None, Some, option_map};
 ghost use Rattle.tftp_sockets.specs.Bound.{IsBoundTo};
-ghost use Rattle.tftp_loop.specs.PortOrder.{HasPorts, IsOneOf, IsOrderOf, Mixes, UsesNext};
+ghost use Rattle.tftp_loop.specs.PortOrder.{HasPorts, IsOneOf, Mixes, UsesNext};
 ghost use Rattle.tftp_loop.specs.declared.port_order.PortOrder.{PortOrder};
 ghost use Rattle.tftp_loop.specs.PortPool.{IsOfPool, Tries, after_bind, most_of};
 ghost use Rattle.tftp_loop.specs.PortsInTurn.{TriesInTurn};
@@ -100,20 +100,12 @@ fn order_of<N: ServerUdp>(
     ensures ports { IfOk result (λ order. IfSome order HasPorts) }
 {
     match range {
-        Some(range) => match ordered(net, alloc, range) {
+        Some(range) => match PortOrder::new(net, alloc, range) {
             Ok(order) => Ok(Some(order)),
             Err(error) => Err(error),
         },
         None => Ok(None),
     }
-}
-
-/// The ports of a range, in a random order.
-fn ordered<N: ServerUdp>(net: &N, alloc: Global, range: PortRange) -> io::Result<PortOrder>
-    ensures range { IfOk result (λ order. order.range ≡ range) }
-    ensures ports { IfOk result HasPorts }
-{
-    PortOrder::new(net, alloc, range)
 }
 
 /// Binds a port of the system's choice. `None` if the system refuses.
@@ -177,20 +169,6 @@ fn draw_port(order: &mut PortOrder, among: usize) -> Option<u16>
     ensures some { IsSome result }
 {
     order.mix(among);
-    next_port(order)
-}
-
-/// The next port of the order, which is then the last one. `None` if there are none.
-fn next_port(order: &mut PortOrder) -> Option<u16>
-    // The order has ports before and after, and is of the same range.
-    requires { HasPorts order.old }
-    ensures range { order.new.range ≡ order.old.range }
-    ensures ports { HasPorts order.new }
-    // Which port is the next, and that there is one.
-    ensures port { IfSome result (IsOneOf (Some order.old.range)) }
-    ensures uses { IfSome result (UsesNext order.old order.new) }
-    ensures some { IsSome result }
-{
     order.next()
 }
 

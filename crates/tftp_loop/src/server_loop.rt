@@ -9,9 +9,9 @@ ghost use Rattle.tftp_sockets.specs.Quiet.{is_among};
 ghost use Rattle.tftp_loop.specs.Steps.{marked_by, set_by};
 ghost use Rattle.tftp_loop.specs.LoopStates.{AreBound, AreLong, FailsToPrint, HasRoom};
 ghost use Rattle.tftp_loop.specs.LoopStates.{IsAtStart, IsEmptied};
-ghost use Rattle.tftp_loop.specs.LoopStates.{EndsRounds, OnlyServes, OnlyWorks};
+ghost use Rattle.tftp_loop.specs.LoopStates.{EndsRounds, OnlyWorks};
 ghost use Rattle.tftp_loop.specs.LoopStates.{WorksRound};
-ghost use Rattle.tftp_loop.specs.MayWait.{ClosesPort, Finishes, HasRead, HasSlept, HasWoken};
+ghost use Rattle.tftp_loop.specs.MayWait.{Finishes, HasRead, HasSlept, HasWaited, HasWoken, MayWait};
 ghost use Rattle.tftp_loop.specs.MayWait.{AwaitVisit, HasFew, WereVisited, before_visit};
 ghost use Rattle.tftp_loop.specs.MayWait.{IsSurveyOf};
 ghost use Rattle.tftp_loop.specs.MayWait.{IsSettled, IsTended};
@@ -25,7 +25,7 @@ use crate::serving::{LoopConfig, LoopFault};
 use crate::sockets::Sockets;
 use crate::transfer_port::{Survey, TransferPort, wake_all, work_at};
 use std::alloc::{AllocError, Global};
-use tftp_ends::{Backoff, Endpoint, Record};
+use tftp_ends::{Backoff, Endpoint};
 use tftp_lines::Reason;
 use tftp_server::{Server, Store};
 use tftp_sockets::{DATAGRAM_BUFFER, DrainSignal, LONGEST_WAIT, Reports, ServerUdp, index_of};
@@ -169,8 +169,8 @@ impl<S: ServedStore<Reason> + Drop> ServerLoop<S> {
         }
     }
 
-    /// Whether the end of the configuration is reached: no transfer is yet to close, no wait may
-    /// begin, or the server has drained.
+    /// Whether the loop ends: no transfer is yet to close, no wait may begin, or the server has
+    /// drained, which takes no new request and has nothing left to do.
     fn is_over(&self) -> bool
         ensures over { IsTrue result
             → (self.now.left ≡ 0) ⊎ ((self.now.rounds ≡ 0) ⊎ IsEmptied self.now) }
@@ -183,7 +183,13 @@ impl<S: ServedStore<Reason> + Drop> ServerLoop<S> {
         if self.rounds == 0 {
             return true;
         }
-        self.is_emptied()
+        let Drain::Begun = self.drain else {
+            return false;
+        };
+        if self.pending.is_some() {
+            return false;
+        }
+        self.ports.is_empty()
     }
 
     /// Begins to drain if that is signalled, and then handles datagrams and due timeouts, until no
@@ -256,19 +262,6 @@ impl<S: ServedStore<Reason> + Drop> ServerLoop<S> {
         log_drain(rt, self.log, self.ports.len());
     }
 
-    /// Whether the server has drained: it takes no new request, and has nothing left to do.
-    fn is_emptied(&self) -> bool
-        ensures { IsTrue result → IsEmptied self.now }
-    {
-        let Drain::Begun = self.drain else {
-            return false;
-        };
-        if self.pending.is_some() {
-            return false;
-        }
-        self.ports.is_empty()
-    }
-
     /// Whether the request port is read: it is marked, and the server does not drain.
     pub(crate) fn reads_requests(&self) -> bool
         ensures { result ≡ reads_of self.now }
@@ -283,20 +276,9 @@ impl<S: ServedStore<Reason> + Drop> ServerLoop<S> {
     /// draft that is to be synced is synced before, if no datagram has arrived: all other transfers
     /// wait for it.
     fn wait<N: ServerUdp>(&mut self, net: &mut N, reports: &mut Reports)
-        // The loop before the call.
-        requires tended { IsTended self.old (N.log net.old) }
-        requires left { 1 ≤ self.old.left }
-        requires rounds { 1 ≤ self.old.rounds }
-        // What it does, as steps of the loop.
-        ensures serves { OnlyServes S.meaning S.Source.meaning self.old (N.log net.old) self.new
+        requires { MayWait self.old (N.log net.old) }
+        ensures waits { HasWaited S.meaning S.Source.meaning self.old (N.log net.old) self.new
             (N.log net.new) }
-        // What holds after it.
-        ensures settled { IsSettled self.new }
-        ensures few { HasFew 0 self.new }
-        ensures first { self.new.sockets.has_received ≡ false }
-        // What stays.
-        ensures rounds { self.new.rounds + 1 ≡ self.old.rounds }
-        ensures room { HasRoom self.old → HasRoom self.new }
         ensures file { N.file net.new ≡ N.file net.old }
     {
         self.report_if_due(net);
@@ -341,21 +323,10 @@ impl<S: ServedStore<Reason> + Drop> ServerLoop<S> {
         survey: Survey,
         tid: u16,
     )
-        // The loop before the call.
         requires surveyed { IsSurveyOf self.old.ports.items survey }
-        requires tended { IsTended self.old (N.log net.old) }
-        requires left { 1 ≤ self.old.left }
-        requires rounds { 1 ≤ self.old.rounds }
-        // What it does, as steps of the loop.
-        ensures serves { OnlyServes S.meaning S.Source.meaning self.old (N.log net.old) self.new
+        requires may { MayWait self.old (N.log net.old) }
+        ensures waits { HasWaited S.meaning S.Source.meaning self.old (N.log net.old) self.new
             (N.log net.new) }
-        // What holds after it.
-        ensures settled { IsSettled self.new }
-        ensures few { HasFew 0 self.new }
-        ensures first { self.new.sockets.has_received ≡ false }
-        // What stays.
-        ensures rounds { self.new.rounds + 1 ≡ self.old.rounds }
-        ensures room { HasRoom self.old → HasRoom self.new }
         ensures file { N.file net.new ≡ N.file net.old }
     {
         if net.poll_now(&mut self.sockets.poll, reports) {
@@ -389,21 +360,10 @@ impl<S: ServedStore<Reason> + Drop> ServerLoop<S> {
 
     /// Waits until a datagram has arrived or a port is to be read, for at most a second.
     fn sleep<N: ServerUdp>(&mut self, net: &mut N, reports: &mut Reports, survey: Survey)
-        // The loop before the call.
         requires surveyed { IsSurveyOf self.old.ports.items survey }
-        requires tended { IsTended self.old (N.log net.old) }
-        requires left { 1 ≤ self.old.left }
-        requires rounds { 1 ≤ self.old.rounds }
-        // What it does, as steps of the loop.
-        ensures serves { OnlyServes S.meaning S.Source.meaning self.old (N.log net.old) self.new
+        requires may { MayWait self.old (N.log net.old) }
+        ensures waits { HasWaited S.meaning S.Source.meaning self.old (N.log net.old) self.new
             (N.log net.new) }
-        // What holds after it.
-        ensures settled { IsSettled self.new }
-        ensures few { HasFew 0 self.new }
-        ensures first { self.new.sockets.has_received ≡ false }
-        // What stays.
-        ensures rounds { self.new.rounds + 1 ≡ self.old.rounds }
-        ensures room { HasRoom self.old → HasRoom self.new }
         ensures file { N.file net.new ≡ N.file net.old }
     {
         self.active = survey.active;
@@ -604,26 +564,6 @@ impl<S: ServedStore<Reason> + Drop> ServerLoop<S> {
         if closed.is_none() {
             return Ok(());
         }
-        self.close_port(net, index, closed)
-    }
-
-    /// Removes the port at this index, and prints the outcome of its transfer: it is one less to
-    /// close.
-    fn close_port<N: ServerUdp + Eprint>(
-        &mut self,
-        net: &mut N,
-        index: usize,
-        closed: Option<Record>,
-    ) -> Result<(), LoopFault>
-        // The loop before the call.
-        requires left { 1 ≤ self.old.left }
-        requires within { index < length self.old.ports.items }
-        // What it does, as steps of the loop.
-        ensures closes { ClosesPort index closed self.old (N.log net.old) self.new
-            (N.log net.new) }
-        ensures fault { IfErr result (λ fault. FailsToPrint fault (N.log net.new)) }
-        ensures file { N.file net.new ≡ N.file net.old }
-    {
         self.left -= 1;
         let port = self.ports.swap_remove(index);
         let reason = self.server.store().take_reason();

@@ -1,6 +1,5 @@
 use Rattle.std.proofs.Common.{rules}
-use Rattle.tftp_loop.proofs.Common.{◌≡◌, ◌-◌, not, refl, sym, ap, subst, ◌∙◌, Port, TransferSocket, ServerLoop}
-use Rattle.tftp_loop.specs.MayWait.{Finishes}
+use Rattle.tftp_loop.proofs.Common.{◌≡◌, ◌-◌, not, refl, ap, ◌∙◌, Port, TransferSocket, ServerLoop, slice_index_or}
 use Rattle.tftp_loop.proofs.ListLemmas.{one_at}
 use Rattle.tftp_loop.proofs.Visits.{stays_by, goes_by}
 use Rattle.tftp_loop.proofs.server_loop.ServerLoop.finish.Goals as goal
@@ -16,13 +15,16 @@ pub returns-clause-finishes : goal.returns-clause-finishes
 returns-clause-finishes g c =
     let old = c.args.self.now in
     let taken = c.record_of_closed-closed in
-    let new = c.close_port.new.self in
-    let closes = c.close_port.ensures.closes in
-    let after : ServerLoop _ _ _ = record old { server = taken.new.server; ports = new.ports; left = old.left - 1 } in
-    let same : c.index-port.result.now ≡ closes.port = search (rules, one_at) in
-    subst (λ (d : ServerLoop _ _ _). Finishes g.S.Store.meaning g.S.Source.Source.meaning c.args.index old (g.N.Udp.log
-    c.args.net.now) d (g.N.Udp.log c.close_port.new.net)) (sym closes.rest) (goes_by g.S.Store.meaning
-    g.S.Source.Source.meaning old after c.args.index closes.port c.port.result taken.result c.requires.within
-    closes.is_port (c.port.ensures ∙ ap (λ (p : Port TransferSocket). p.socket.udp.port) same) taken.ensures.found
-    taken.ensures.held taken.ensures.rest (g.N.Udp.log c.args.net.now) (g.N.Udp.log c.close_port.new.net)
-    (c.is_none.ensures ∙ ap not c.if-is_none.false) c.requires.left closes.items closes.events refl)
+    let port = c.swap_remove-port.result in
+    let is_port : port ≡ slice_index_or old.ports.items c.args.index port = search rules in
+    let same : c.index-port.result.now ≡ port = search (rules, one_at) in
+    let after : ServerLoop _ _ _ = record old {
+      server = taken.new.server;
+      ports = c.swap_remove-port.new.self;
+      left = old.left - 1;
+    } in
+    goes_by g.S.Store.meaning g.S.Source.Source.meaning old after c.args.index port c.port.result taken.result
+    c.requires.within is_port (c.port.ensures ∙ ap (λ (p : Port TransferSocket). p.socket.udp.port) same)
+    taken.ensures.found taken.ensures.held taken.ensures.rest (g.N.Udp.log c.args.net.now)
+    (g.N.Udp.log c.report_close.new.net) (c.is_none.ensures ∙ ap not c.if-is_none.false) c.requires.left
+    (search rules) c.report_close.ensures.events refl

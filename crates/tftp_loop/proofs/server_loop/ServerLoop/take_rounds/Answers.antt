@@ -22,13 +22,13 @@ loop-self-preserved g c =
     record {
       serves =
           onward c.loop-self.invariant.serves (onward (runs_as g.S.Store.meaning g.S.Source.Source.meaning
-          c.take_round.ensures.works) (onward (c.wait.ensures.serves c.take_round.new.request) (idle
+          c.take_round.ensures.works) (onward (c.wait.ensures.waits.serves c.take_round.new.request) (idle
           (ap (state_of c.take_round.new.request c.wait.new.self) same))));
-      settled = c.wait.ensures.settled;
-      few = c.wait.ensures.few;
-      first = c.wait.ensures.first;
+      settled = c.wait.ensures.waits.settled;
+      few = c.wait.ensures.waits.few;
+      first = c.wait.ensures.waits.first;
       file = grind (arith, common_steps);
-      room = c.wait.ensures.room c.take_round.ensures.room;
+      room = c.wait.ensures.waits.room c.take_round.ensures.room;
     }
 
 pub returns-in_err-take_round-clause-serves : goal.returns-in_err-take_round-clause-serves
@@ -59,7 +59,7 @@ returns-then-has_no_reader-clause-serves g c = record {
   served = g.N.Udp.log c.wait.new.net;
   serves =
       onward c.loop-self.invariant.serves (onward (runs_as g.S.Store.meaning g.S.Source.Source.meaning
-      c.take_round.ensures.works) (c.wait.ensures.serves c.take_round.new.request));
+      c.take_round.ensures.works) (c.wait.ensures.waits.serves c.take_round.new.request));
   noted = found_it c.has_no_reader.result _ _ _ c.if-has_no_reader.true c.has_no_reader.ensures.noted;
   fault = inl refl;
 }

@@ -1,8 +1,9 @@
-use Rattle.tftp_loop.proofs.Common.{subst, sym, IsTended}
+use Rattle.tftp_loop.proofs.Common.{subst, sym}
+use Rattle.tftp_loop.specs.MayWait.{MayWait}
 use Rattle.tftp_loop.proofs.server_loop.ServerLoop.wait.Goals as goal
 
-pub sync_and_wait-requires-clause-tended : goal.sync_and_wait-requires-clause-tended
-sync_and_wait-requires-clause-tended g c = subst (IsTended c.args.self.now) (sym c.report_if_due.ensures.events) c.requires.tended
+pub sync_and_wait-requires-clause-may : goal.sync_and_wait-requires-clause-may
+sync_and_wait-requires-clause-may g c = subst (MayWait c.args.self.now) (sym c.report_if_due.ensures.events) c.requires
 
-pub sleep-requires-clause-tended : goal.sleep-requires-clause-tended
-sleep-requires-clause-tended g c = subst (IsTended c.args.self.now) (sym c.report_if_due.ensures.events) c.requires.tended
+pub sleep-requires-clause-may : goal.sleep-requires-clause-may
+sleep-requires-clause-may g c = subst (MayWait c.args.self.now) (sym c.report_if_due.ensures.events) c.requires
