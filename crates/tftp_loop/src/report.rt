@@ -17,7 +17,7 @@ use std::alloc::Global;
 use tftp_ends::{ErrorReply, Outcome, Record, Side};
 use tftp_lines::{LogLine, Lost, Printed, Reason, RequestLine};
 use tftp_server::Server;
-use tftp_sockets::{Direction, Entry, ServerUdp};
+use tftp_sockets::{Direction, Entry, ServerUdp, Watch};
 use tftp_store::ServedStore;
 
 /// Logs the line of the request port, if there is a log: what standard output has may go nowhere.
@@ -102,6 +102,40 @@ pub(crate) fn direction_asked(request: &[u8]) -> Direction
         [0, 1, ..] => Direction::Read,
         _ => Direction::Write,
     }
+}
+
+/// The opening of a transfer.
+#[derive(Clone, Copy)]
+pub(crate) struct Opening<'a> {
+    /// The answer to its request.
+    pub(crate) answer: &'a [u8],
+    /// The reading of the clock.
+    pub(crate) reading: u64,
+    /// That the answer was sent, if there is one, or why the system refused that.
+    pub(crate) sent: Result<(), Reason>,
+}
+
+/// Logs a request that opened a transfer at this port, if there is a log, and returns the entry for
+/// its close, if there is a log or the device counts.
+pub(crate) fn log_opened<N: ServerUdp + Eprint>(
+    net: &N,
+    alloc: Global,
+    log: Log,
+    port: u16,
+    datagram: Datagram<'_>,
+    opening: Opening<'_>,
+) -> Option<LogEntry> {
+    if !log.is_written && !net.is_counted() {
+        return None;
+    }
+    let entry = LogEntry::new(alloc, log, datagram, opening.answer, opening.reading);
+    if log.is_written {
+        log.write(net, entry.opened(port));
+        if let Err(reason) = opening.sent {
+            log_unsent_answer(net, alloc, log, port, datagram, reason);
+        }
+    }
+    Some(entry)
 }
 
 /// The answer to a datagram that opened no transfer.
@@ -298,6 +332,28 @@ fn direction_of(side: Side) -> Direction
         Side::ClientWrite => Direction::Write,
         Side::ServerWrite => Direction::Write,
     }
+}
+
+/// Reports the open transfers at these ports, if a report is due.
+pub(crate) fn report_if_due<N: ServerUdp>(net: &mut N, ports: &[TransferPort], watch: Watch)
+    ensures events { N.log net.new ≡ N.log net.old }
+    ensures file { N.file net.new ≡ N.file net.old }
+{
+    if net.is_report_due(watch.now) {
+        report_all(net, ports, watch);
+    }
+}
+
+/// Reports the open transfers at these ports.
+pub(crate) fn report_all<N: ServerUdp>(net: &mut N, ports: &[TransferPort], watch: Watch)
+    ensures events { N.log net.new ≡ N.log net.old }
+    ensures told { N.told net.new ≡ N.told net.old }
+    ensures file { N.file net.new ≡ N.file net.old }
+{
+    for port in ports.iter() {
+        report_open(net, port, watch.reading);
+    }
+    net.end_report(watch.now);
 }
 
 /// Adds an open transfer to the report that is due. `reading` is the newest reading of the clock.

@@ -28,13 +28,15 @@ ghost use Rattle.tftp_loop.specs.Told.{IsToldOnce, IsToldUnlessKept, direction_a
 ghost use Rattle.tftp_loop.specs.declared.port_visit.TheConstants.{MOST_AT_ONCE};
 
 use crate::datagram::Datagram;
+use crate::log::Log;
 use crate::log_entry::{LogEntry, reason_unasked};
 use crate::report::{
-    Refusal, count_opened, count_unopened, log_lost, log_refused, log_unsent_answer,
+    Opening, Refusal, count_opened, count_unopened, log_lost, log_opened, log_refused,
 };
 use crate::server_loop::ServerLoop;
 use crate::sockets::Sockets;
 use crate::transfer_port::{TransferPort, TransferSocket, age_limit, next_look, open_of, reply};
+use std::alloc::Global;
 use tftp_ends::{DEFAULT_INTERVAL, Endpoint, ErrorReply};
 use tftp_lines::{Lost, Reason};
 use tftp_server::{Admission, Opened, Server, Store};
@@ -262,8 +264,10 @@ impl<S: ServedStore<Reason> + Drop> ServerLoop<S> {
     {
         match action {
             RequestAction::Ignore => self.refuse(net, datagram, None),
-            RequestAction::NoMemory => self.lose_for_memory(net, datagram),
-            RequestAction::TooMany(most) => self.lose(net, datagram, Lost::Client(most)),
+            RequestAction::NoMemory => lose_for_memory(net, self.alloc, self.log, datagram),
+            RequestAction::TooMany(most) => {
+                lose(net, self.alloc, self.log, datagram, Lost::Client(most));
+            }
             RequestAction::Refuse(reply) => self.refuse(net, datagram, reply),
             RequestAction::Open(admission) => self.open_request(net, datagram, admission),
         }
@@ -315,11 +319,12 @@ impl<S: ServedStore<Reason> + Drop> ServerLoop<S> {
         ensures file { N.file net.new ≡ N.file net.old }
     {
         let Some(bound) = self.sockets.port_for(net, &admission) else {
-            self.lose(net, datagram, Lost::Port(self.sockets.bind_error()));
+            let lost = Lost::Port(self.sockets.bind_error());
+            lose(net, self.alloc, self.log, datagram, lost);
             return;
         };
         if is_taken(&self.sockets, &self.server, bound.port()) {
-            self.lose(net, datagram, Lost::Port(None));
+            lose(net, self.alloc, self.log, datagram, Lost::Port(None));
             return;
         }
         self.open_at(net, datagram, admission, bound);
@@ -363,7 +368,7 @@ impl<S: ServedStore<Reason> + Drop> ServerLoop<S> {
         let reason = self.server.store().take_reason();
         match opened {
             Ok(opened) => self.answer_opened(net, datagram, bound, opened, reason),
-            Err(_) => self.lose_for_memory(net, datagram),
+            Err(_) => lose_for_memory(net, self.alloc, self.log, datagram),
         }
     }
 
@@ -445,28 +450,6 @@ impl<S: ServedStore<Reason> + Drop> ServerLoop<S> {
         }
     }
 
-    /// Notes that memory was refused for a datagram, which is lost by that.
-    fn lose_for_memory<N: ServerUdp + Eprint>(&self, net: &mut N, datagram: Datagram<'_>)
-        ensures events { N.log net.new ≡ Quiet Out_of_memory ∷ N.log net.old }
-        ensures told { N.told net.new ≡ and_told Entry.Lost (N.told net.old) }
-        ensures file { N.file net.new ≡ N.file net.old }
-    {
-        net.out_of_memory();
-        self.lose(net, datagram, Lost::Memory);
-    }
-
-    /// Counts a lost request, and logs it, if there is a log.
-    fn lose<N: ServerUdp + Eprint>(&self, net: &mut N, datagram: Datagram<'_>, lost: Lost)
-        ensures events { N.log net.new ≡ N.log net.old }
-        ensures told { N.told net.new ≡ and_told Entry.Lost (N.told net.old) }
-        ensures file { N.file net.new ≡ N.file net.old }
-    {
-        net.count(Entry::Lost);
-        if self.log.is_written {
-            log_lost(&*net, self.alloc, self.log, datagram, lost);
-        }
-    }
-
     /// Sends the first datagram of an opened transfer from its port, and adds the port.
     fn begin<N: ServerUdp + Eprint>(
         &mut self,
@@ -488,7 +471,12 @@ impl<S: ServedStore<Reason> + Drop> ServerLoop<S> {
     {
         let sent = reply(net, &bound, to, self.out.as_slice());
         count_opened(net, datagram.bytes);
-        let log_entry = self.log_opened(&*net, bound.port(), datagram, sent);
+        let opening = Opening {
+            answer: self.out.as_slice(),
+            reading: self.sockets.watch.reading,
+            sent,
+        };
+        let log_entry = log_opened(&*net, self.alloc, self.log, bound.port(), datagram, opening);
         let port = self.port_of(bound, datagram.from, log_entry);
         self.ports.push_reserved(port);
     }
@@ -531,29 +519,38 @@ impl<S: ServedStore<Reason> + Drop> ServerLoop<S> {
             },
         }
     }
+}
 
-    /// Logs a request that opened a transfer, if there is a log, and returns the entry for its
-    /// close, if there is a log or the device counts.
-    fn log_opened<N: ServerUdp + Eprint>(
-        &self,
-        net: &N,
-        tid: u16,
-        datagram: Datagram<'_>,
-        sent: Result<(), Reason>,
-    ) -> Option<LogEntry> {
-        if !self.log.is_written && !net.is_counted() {
-            return None;
-        }
-        let first = self.out.as_slice();
-        let reading = self.sockets.watch.reading;
-        let entry = LogEntry::new(self.alloc, self.log, datagram, first, reading);
-        if self.log.is_written {
-            self.log.write(net, entry.opened(tid));
-            if let Err(reason) = sent {
-                log_unsent_answer(net, self.alloc, self.log, tid, datagram, reason);
-            }
-        }
-        Some(entry)
+/// Notes that memory was refused for a datagram, which is lost by that.
+fn lose_for_memory<N: ServerUdp + Eprint>(
+    net: &mut N,
+    alloc: Global,
+    log: Log,
+    datagram: Datagram<'_>,
+)
+    ensures events { N.log net.new ≡ Quiet Out_of_memory ∷ N.log net.old }
+    ensures told { N.told net.new ≡ and_told Entry.Lost (N.told net.old) }
+    ensures file { N.file net.new ≡ N.file net.old }
+{
+    net.out_of_memory();
+    lose(net, alloc, log, datagram, Lost::Memory);
+}
+
+/// Counts a lost request, and logs it, if there is a log.
+fn lose<N: ServerUdp + Eprint>(
+    net: &mut N,
+    alloc: Global,
+    log: Log,
+    datagram: Datagram<'_>,
+    lost: Lost,
+)
+    ensures events { N.log net.new ≡ N.log net.old }
+    ensures told { N.told net.new ≡ and_told Entry.Lost (N.told net.old) }
+    ensures file { N.file net.new ≡ N.file net.old }
+{
+    net.count(Entry::Lost);
+    if log.is_written {
+        log_lost(&*net, alloc, log, datagram, lost);
     }
 }
 

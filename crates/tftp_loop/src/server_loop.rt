@@ -20,7 +20,7 @@ ghost use Rattle.tftp_loop.specs.MayWait.{millis_of, reads_of, timers_of};
 use crate::drain::Drain;
 use crate::log::Log;
 use crate::port_visit::{Moment, Pass, is_visited, visit_port};
-use crate::report::{log_drain, log_unsent, record_of_closed, report_close, report_open};
+use crate::report::{log_drain, log_unsent, record_of_closed, report_close, report_if_due};
 use crate::serving::{LoopConfig, LoopFault};
 use crate::sockets::Sockets;
 use crate::transfer_port::{Survey, TransferPort, wake_all, work_at};
@@ -281,7 +281,7 @@ impl<S: ServedStore<Reason> + Drop> ServerLoop<S> {
             (N.log net.new) }
         ensures file { N.file net.new ≡ N.file net.old }
     {
-        self.report_if_due(net);
+        report_if_due(net, self.ports.as_slice(), self.sockets.watch);
         let survey = Survey::of(self.sockets.watch.now, self.ports.as_slice());
         if self.millis_to_wait(survey) > 0 {
             if let Some(tid) = self.server.store().take_unsynced() {
@@ -290,29 +290,6 @@ impl<S: ServedStore<Reason> + Drop> ServerLoop<S> {
             }
         }
         self.sleep(net, reports, survey);
-    }
-
-    /// Reports the open transfers, if a report is due.
-    fn report_if_due<N: ServerUdp>(&self, net: &mut N)
-        ensures events { N.log net.new ≡ N.log net.old }
-        ensures file { N.file net.new ≡ N.file net.old }
-    {
-        if net.is_report_due(self.sockets.watch.now) {
-            self.report(net);
-        }
-    }
-
-    /// Reports the open transfers.
-    pub(crate) fn report<N: ServerUdp>(&self, net: &mut N)
-        ensures events { N.log net.new ≡ N.log net.old }
-        ensures told { N.told net.new ≡ N.told net.old }
-        ensures file { N.file net.new ≡ N.file net.old }
-    {
-        let reading = self.sockets.watch.reading;
-        for port in self.ports.iter() {
-            report_open(net, port, reading);
-        }
-        net.end_report(self.sockets.watch.now);
     }
 
     /// Polls, and syncs the draft of a transfer and waits if no datagram has arrived.

@@ -5,7 +5,7 @@ ghost use Rattle.tftp_loop.specs.LoopStates.{IsAtStart};
 ghost use Rattle.tftp_loop.specs.WholeRun.{RunsServer, RunsServerFrom, listening};
 
 use crate::port_order::PortRange;
-use crate::report::log_listening;
+use crate::report::{log_listening, report_all};
 use crate::server_loop::ServerLoop;
 use crate::sockets::Sockets;
 use std::alloc::Global;
@@ -134,7 +134,7 @@ impl<S: ServedStore<Reason> + Drop> ServerLoop<S> {
             buffers.request.as_mut_slice(),
             buffers.datagram.as_mut_slice(),
         );
-        self.report(net);
+        report_all(net, self.ports.as_slice(), self.sockets.watch);
         served
     }
 }

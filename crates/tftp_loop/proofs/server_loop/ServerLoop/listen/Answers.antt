@@ -61,6 +61,6 @@ returns-clause-runs g c =
       reading = sockets.watch.reading;
       last = state_of rounds.new.request rounds.new.self rounds.ensures.serves.served;
       run = onward (idle begins) rounds.ensures.serves.serves;
-      noted = c.report.ensures.events ∙ rounds.ensures.serves.noted;
+      noted = c.report_all.ensures.events ∙ rounds.ensures.serves.noted;
       ends = ends_by _ rounds.new.request _ _ _ rounds.ensures.end rounds.ensures.serves.fault;
     }

@@ -1,5 +1,5 @@
 use Rattle.tftp_loop.proofs.Common.{◌≡◌}
-use Rattle.tftp_loop.proofs.server_loop.ServerLoop.report.Given as goal
+use Rattle.tftp_loop.proofs.report.report_all.Given as goal
 
 -- no event, nothing is told, and the file stays
 abbrev pub invariant-loop-port : goal.invariant-loop-port
