@@ -231,7 +231,7 @@ impl<N: ServerUdp, S: Store> PortVisit<'_, N, S> {
         status_of(&step)
     }
 
-    /// Delivers the timeout, if it is due.
+    /// Delivers the timeout, if it is due, and sends the datagram of its step.
     fn time_out_if_due(&mut self) -> PortStatus
         // The port was read, and is not left for a while.
         requires tried { IsTried N.log self.old }
@@ -243,26 +243,9 @@ impl<N: ServerUdp, S: Store> PortVisit<'_, N, S> {
             (at_visit N.log self.new)) }
         ensures file { N.file self.new.net.now ≡ N.file self.old.net.now }
     {
-        if is_due(self.now, self.port.socket.deadline) {
-            self.take_timeout()
-        } else {
-            PortStatus::Empty
+        if !is_due(self.now, self.port.socket.deadline) {
+            return PortStatus::Empty;
         }
-    }
-
-    /// Delivers the timeout, and sends the datagram of its step.
-    fn take_timeout(&mut self) -> PortStatus
-        // The timeout is due, and the port was read and is not left for a while.
-        requires due { self.old.port.now.socket.deadline ≤ self.old.now }
-        requires tried { IsTried N.log self.old }
-        requires look { self.old.port.now.look_at ≡ self.old.port.now.socket.deadline }
-        // What happens at the port, and what the next wait may rest on.
-        ensures serves { ServesVisit N.log S.meaning S.Source.meaning 0 self.old self.new }
-        ensures timed { IsTimed self.new.now (timer_of self.new.port.now) }
-        ensures open { UnlessClosed result (StaysOpen (at_visit N.log self.old)
-            (at_visit N.log self.new)) }
-        ensures file { N.file self.new.net.now ≡ N.file self.old.net.now }
-    {
         let number = self.port.socket.udp.port();
         self.net.elapsed(number, self.now);
         let socket = &self.port.socket;
