@@ -80,7 +80,7 @@ impl PortPool {
         let ip = self.ip;
         match &mut self.order {
             Some(order) => bind_next(net, ip, order, &mut self.bind_error),
-            None => bind_any(net, ip, &mut self.bind_error),
+            None => bind_at(net, ip, 0, &mut self.bind_error),
         }
     }
 
@@ -106,20 +106,6 @@ fn order_of<N: ServerUdp>(
         },
         None => Ok(None),
     }
-}
-
-/// Binds a port of the system's choice. `None` if the system refuses.
-fn bind_any<N: ServerUdp>(
-    net: &mut N,
-    ip: [u8; 4],
-    bind_error: &mut Option<Reason>,
-) -> Option<ServerSocket>
-    ensures ip { IfSome result (λ socket. socket.ip ≡ ip) }
-    ensures tries { Tries None (N.log net.old) (N.log net.new) result }
-    ensures told { N.told net.new ≡ N.told net.old }
-    ensures file { N.file net.new ≡ N.file net.old }
-{
-    bind_at(net, ip, 0, bind_error)
 }
 
 /// Binds the next port of the order to which the system binds a socket. `None` if it does to none.

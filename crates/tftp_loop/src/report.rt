@@ -5,8 +5,6 @@ ghost use Rattle.tftp_server.specs.State.{at, taken_of, without};
 ghost use Rattle.tftp_loop.specs.LoopStates.{FailsToPrint, close_reported};
 ghost use Rattle.tftp_loop.specs.Told.{IsCloseTold, IsClosedBy, direction_asked, direction_of};
 ghost use Rattle.tftp_loop.specs.Told.{unopened_entry};
-ghost use Rattle.tftp_sockets.specs.Told.{and_told};
-ghost use Rattle.tftp_sockets.specs.declared.entry.Entry.TheVariants.{Opened};
 
 use crate::datagram::Datagram;
 use crate::log::Log;
@@ -62,17 +60,8 @@ pub(crate) fn log_unopened<E: Eprint>(
     log.write(rt, line);
 }
 
-/// Counts a datagram of the request port that opened no transfer and is not lost, by its answer.
-pub(crate) fn count_unopened<N: ServerUdp>(net: &mut N, answer: &[u8])
-    ensures events { N.log net.new ≡ N.log net.old }
-    ensures told { N.told net.new ≡ and_told (unopened_entry answer.now) (N.told net.old) }
-    ensures file { N.file net.new ≡ N.file net.old }
-{
-    net.count(unopened_entry(answer));
-}
-
 /// What happened by this answer to a datagram that opened no transfer.
-fn unopened_entry(answer: &[u8]) -> Entry
+pub(crate) fn unopened_entry(answer: &[u8]) -> Entry
     ensures { result ≡ unopened_entry answer.now }
 {
     if answer.is_empty() {
@@ -82,16 +71,6 @@ fn unopened_entry(answer: &[u8]) -> Entry
         return Entry::Busy;
     }
     Entry::Refused
-}
-
-/// Counts a request that opened a transfer.
-pub(crate) fn count_opened<N: ServerUdp>(net: &mut N, request: &[u8])
-    ensures events { N.log net.new ≡ N.log net.old }
-    ensures told { N.told net.new
-        ≡ and_told (Opened (direction_asked request.now)) (N.told net.old) }
-    ensures file { N.file net.new ≡ N.file net.old }
-{
-    net.count(Entry::Opened(direction_asked(request)));
 }
 
 /// Which way the file goes that a request asks for.

@@ -31,7 +31,7 @@ use crate::datagram::Datagram;
 use crate::log::Log;
 use crate::log_entry::{LogEntry, reason_unasked};
 use crate::report::{
-    Opening, Refusal, count_opened, count_unopened, log_lost, log_opened, log_refused,
+    Opening, Refusal, direction_asked, log_lost, log_opened, log_refused, unopened_entry,
 };
 use crate::server_loop::ServerLoop;
 use crate::sockets::Sockets;
@@ -438,7 +438,7 @@ impl<S: ServedStore<Reason> + Drop> ServerLoop<S> {
         ensures file { N.file net.new ≡ N.file net.old }
     {
         let sent = reply(net, &self.sockets.requests, to, answer);
-        count_unopened(net, answer);
+        net.count(unopened_entry(answer));
         if self.log.is_written {
             let port = self.sockets.requests.port();
             let refusal = Refusal {
@@ -470,7 +470,7 @@ impl<S: ServedStore<Reason> + Drop> ServerLoop<S> {
         ensures file { N.file net.new ≡ N.file net.old }
     {
         let sent = reply(net, &bound, to, self.out.as_slice());
-        count_opened(net, datagram.bytes);
+        net.count(Entry::Opened(direction_asked(datagram.bytes)));
         let opening = Opening {
             answer: self.out.as_slice(),
             reading: self.sockets.watch.reading,
