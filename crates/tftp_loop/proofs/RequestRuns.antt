@@ -2,7 +2,7 @@
 use Rattle.tftp_loop.proofs.Common.{◌≡◌, ◌⊎◌, ℕ, Bool, true, false, List, [], ◌∷◌, ◌++◌, Option, Some, None, IsSome}
 use Rattle.tftp_loop.proofs.Common.{refl, ap, subst, ◌∙◌, inl, inr, Ok, Err, IfSome, true≢false, SourceMeaning}
 use Rattle.tftp_loop.proofs.Common.{Endpoint, StoreMeaning, ServerState, at, CarriesOut, Left, Goes, Came, left_by}
-use Rattle.tftp_loop.proofs.Common.{Nothing, Ask, Ignores, Refuses, Reads, Writes, ErrorReply, error_bytes, SocketEvent}
+use Rattle.tftp_loop.proofs.Common.{Nothing, Ask, Ignores, Refuses, Reads, Writes, SocketEvent}
 use Rattle.tftp_loop.proofs.Common.{replied, Received, Quiet, IsOneOf, TriesPorts, Run, Start, Then, LoopState}
 use Rattle.tftp_loop.proofs.Common.{AnswersRequest, LosesRequest, RequestNote, Found_no_port, Found_port}
 use Rattle.tftp_loop.proofs.Common.{Found_no_memory, after_request, note_event, with_timer, answering_port, is_draining}

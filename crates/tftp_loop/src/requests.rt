@@ -4,7 +4,7 @@ ghost use Rattle.std.specs.Prelude.{◌≡◌, ◌≢◌, ◌<◌, ◌≤◌, �
 ghost use Rattle.std.specs.Prelude.{Some, IfOk, ◌&&◌, not};
 ghost use Rattle.std.specs.Prelude.{IfSome, is_some, vec_len, vec_capacity, map, take, length};
 ghost use Rattle.std.specs.Prelude.{◌+◌, ◌*◌, if◌then◌else◌};
-ghost use Rattle.tftp_server.specs.Port.{asks_store, granted_size};
+ghost use Rattle.tftp_server.specs.Port.{granted_size};
 ghost use Rattle.tftp_server.specs.Request.{Admits};
 ghost use Rattle.tftp_server.specs.State.{at};
 ghost use Rattle.tftp_sockets.specs.declared.address.TheConstants.{DATAGRAM_BUFFER};

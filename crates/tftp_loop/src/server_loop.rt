@@ -1,8 +1,7 @@
 //! The loop over the ports of a server, in one thread.
 
-ghost use Rattle.std.specs.Prelude.{◌≡◌, ◌≤◌, ◌<◌, ◌+◌, ◌⊎◌, ◌||◌, IfErr, OnOk, None, is_some, []};
+ghost use Rattle.std.specs.Prelude.{◌≡◌, ◌≤◌, ◌<◌, ◌+◌, ◌⊎◌, ◌||◌, IfErr, OnOk};
 ghost use Rattle.std.specs.Prelude.{IfOk, IsTrue, List, length, map, false, if◌then◌else◌};
-ghost use Rattle.std.specs.List.{list_any};
 ghost use Rattle.tftp_sockets.specs.declared.address.TheConstants.{DATAGRAM_BUFFER};
 ghost use Rattle.tftp_sockets.specs.Trace.{SocketEvent};
 ghost use Rattle.tftp_sockets.specs.Quiet.{is_among};
@@ -229,7 +228,8 @@ impl<S: ServedStore<Reason> + Drop> ServerLoop<S> {
         self.pass_over(net, Pass::Due, datagram)
     }
 
-    /// Begins to drain if that is signalled. The signal is looked at once a second at most.
+    /// Begins to drain if that is signalled, and logs that: from then on no new request is taken. The
+    /// signal is looked at once a second at most.
     fn look_at_signal<N: ServerUdp + Eprint, D: DrainSignal>(&mut self, net: &mut N, signal: &D)
         ensures works { OnlyWorks S.meaning S.Source.meaning self.old (N.log net.old) self.new
             (N.log net.new) }
@@ -251,15 +251,8 @@ impl<S: ServedStore<Reason> + Drop> ServerLoop<S> {
         if !net.is_signalled(signal) {
             return;
         }
-        self.begin_drain(&*net);
-    }
-
-    /// Takes no new request from now on, and logs that.
-    fn begin_drain<E: Eprint>(&mut self, rt: &E)
-        ensures { self.new ≡ record self.old { drain = Drain.Begun } }
-    {
         self.drain = Drain::Begun;
-        log_drain(rt, self.log, self.ports.len());
+        log_drain(&*net, self.log, self.ports.len());
     }
 
     /// Whether the request port is read: it is marked, and the server does not drain.
@@ -411,25 +404,16 @@ impl<S: ServedStore<Reason> + Drop> ServerLoop<S> {
         requires { IsSurveyOf self.now.ports.items survey }
         ensures { result ≡ millis_of self.now }
     {
-        if self.is_busy(survey) {
+        if self.reads_requests() {
+            return 0;
+        }
+        if self.pending.is_some() {
+            return 0;
+        }
+        if survey.is_ready {
             return 0;
         }
         survey.millis(self.sockets.watch.now)
-    }
-
-    /// Whether a port is to be read or a datagram is pending.
-    fn is_busy(&self, survey: Survey) -> bool
-        requires { IsSurveyOf self.now.ports.items survey }
-        ensures { result ≡ (reads_of self.now || (is_some self.now.pending
-            || list_any (λ port. port.is_ready) self.now.ports.items)) }
-    {
-        if self.reads_requests() {
-            return true;
-        }
-        if self.pending.is_some() {
-            return true;
-        }
-        survey.is_ready
     }
 
     /// Visits the port of each transfer that this pass is for.

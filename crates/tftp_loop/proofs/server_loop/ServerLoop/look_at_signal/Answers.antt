@@ -1,6 +1,7 @@
 use Rattle.std.proofs.lemmas.Grind.{common_steps}
 use Rattle.std.proofs.Common.{arith}
-use Rattle.tftp_loop.proofs.Common.{refl, Start, state_of}
+use Rattle.tftp_loop.proofs.Common.{refl, ServerLoop, Start, state_of}
+use Rattle.tftp_loop.specs.declared.drain.Drain.TheVariants.{Begun}
 use Rattle.tftp_loop.proofs.Receipts.{drains_as, found_it, found_nothing}
 use Rattle.tftp_loop.proofs.RunLemmas.{idle}
 use Rattle.tftp_loop.proofs.server_loop.ServerLoop.look_at_signal.Goals as goal
@@ -16,6 +17,7 @@ returns-then-not-is_signalled-clause-works g c = grind (arith, common_steps, idl
 
 pub returns-clause-works : goal.returns-clause-works
 returns-clause-works g c =
+    let begun : ServerLoop _ _ _ = record c.args.self.now { drain = Begun } in
     λ buffer.
-    drains_as g.S.Store.meaning g.S.Source.Source.meaning buffer _ c.begin_drain.new.self _ _ c.in-Awaited.is
-    c.begin_drain.ensures (found_it c.is_signalled.result _ _ _ c.if-not-is_signalled.false c.is_signalled.ensures.noted)
+    drains_as g.S.Store.meaning g.S.Source.Source.meaning buffer c.args.self.now begun _ _ c.in-Awaited.is
+    refl (found_it c.is_signalled.result _ _ _ c.if-not-is_signalled.false c.is_signalled.ensures.noted)
