@@ -1,5 +1,5 @@
 -- What happens at the port of a transfer, call by call. For `PortVisit::answer`, `PortVisit::take_datagrams`,
--- `PortVisit::take_timeout` and LoopRuns.
+-- `PortVisit::time_out_if_due` and LoopRuns.
 use Rattle.std.proofs.Common.{rules}
 use Rattle.tftp_loop.proofs.Common.{◌≡◌, ◌≤◌, ◌<◌, ◌⊎◌, ℕ, true, false, List, ◌∷◌, Option, Some, None, inl, inr, refl}
 use Rattle.tftp_loop.proofs.Common.{ap, SourceMeaning, Endpoint, Step, StoreMeaning, ServerState, at, SocketEvent}

@@ -1,4 +1,4 @@
--- What happens at the request port. For six functions, Opened, Receipts and Reserving.
+-- What happens at the request port. For three functions, Opened, Receipts and Reserving.
 use Rattle.tftp_loop.proofs.Common.{◌≡◌, ◌⊎◌, ℕ, Bool, true, false, List, [], ◌∷◌, ◌++◌, Option, Some, None, IsSome}
 use Rattle.tftp_loop.proofs.Common.{refl, ap, subst, ◌∙◌, inl, inr, Ok, Err, IfSome, true≢false, SourceMeaning}
 use Rattle.tftp_loop.proofs.Common.{Endpoint, StoreMeaning, ServerState, at, CarriesOut, Left, Goes, Came, left_by}

@@ -1,4 +1,4 @@
--- A visit of the port of a transfer, call by call. For four functions.
+-- A visit of the port of a transfer, call by call. For three functions.
 use Rattle.tftp_loop.proofs.Common.{arith, ◌≡◌, ◌≤◌, ◌+◌, ℕ, List, ◌∷◌, refl, SourceMeaning, StoreMeaning, SocketEvent}
 use Rattle.tftp_loop.proofs.Common.{Elapsed, Received, Quiet, Start}
 use Rattle.std.proofs.Common.{MutBor, rules}

@@ -186,7 +186,7 @@ module _ {S F D : Type 0} where
     pub requests : HasTriedRequests d events
 
   -- a wait may begin: all is done before it, a transfer is yet to close, and a wait is left
-  pub record MayWait (d : ServerLoop S F D) (events : List SocketEvent) : Type 0 where
+  pub record MayBeginWait (d : ServerLoop S F D) (events : List SocketEvent) : Type 0 where
     pub tended : IsTended d events
     pub left : 1 ≤ d.left
     pub rounds : 1 ≤ d.rounds

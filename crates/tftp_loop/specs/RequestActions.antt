@@ -22,7 +22,7 @@ abbrev pub may_open_later : RequestAction → Bool
 may_open_later Ignore = false
 may_open_later NoMemory = false
 may_open_later (TooMany most) = true
-may_open_later (Refuse admission) = true
+may_open_later (Refuse reply) = true
 may_open_later (Open admission) = false
 
 -- where the answer to a datagram goes that opens no transfer, if it has one
@@ -37,7 +37,7 @@ refused_bytes (Some reply) = error_bytes reply
 
 module _ {S F D : Type 0} (d : ServerLoop S F D) (from : Endpoint) (bytes : List ℕ) where
   -- it opens no transfer, and this is its answer, if any
-  pub record IsRefusal (reply : Option ErrorReply) : Type 0 where
+  pub record IsRefusedBy (reply : Option ErrorReply) : Type 0 where
     pub ask : Ask
     pub admits : Admits d.server from bytes ask
     pub opens_none : asks_store ask ≡ false
@@ -45,7 +45,7 @@ module _ {S F D : Type 0} (d : ServerLoop S F D) (from : Endpoint) (bytes : List
     pub handled : IsHandledBy d.requests_only bytes
 
   -- it may open a transfer by this admission
-  pub record IsOpening (admission : AdmissionState) : Type 0 where
+  pub record MayOpenBy (admission : AdmissionState) : Type 0 where
     pub admitted : IsAdmission d.server from bytes admission
     pub may_open : asks_store admission.ask ≡ true
     pub handled : IsHandledBy d.requests_only bytes
@@ -58,5 +58,5 @@ module _ {S F D : Type 0} (d : ServerLoop S F D) (from : Endpoint) (bytes : List
   IsActionOn NoMemory = NamesAPath d.server from bytes
   IsActionOn (TooMany most) =
       MayOpen d.server from bytes × (has_most d.per_client from (timers_of d) ≡ true)
-  IsActionOn (Refuse reply) = IsRefusal reply
-  IsActionOn (Open admission) = IsOpening admission
+  IsActionOn (Refuse reply) = IsRefusedBy reply
+  IsActionOn (Open admission) = MayOpenBy admission

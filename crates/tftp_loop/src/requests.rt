@@ -18,7 +18,7 @@ ghost use Rattle.tftp_loop.specs.PortPool.{IsOfPool, most_of};
 ghost use Rattle.tftp_loop.specs.Steps.{IsSet, answering_port, has_most, interval_at, started};
 ghost use Rattle.tftp_loop.specs.Steps.{with_timer};
 ghost use Rattle.tftp_loop.specs.OnlyRequests.{IsHandledBy, begins_as_request};
-ghost use Rattle.tftp_loop.specs.RequestActions.{IsActionOn, IsOpening, may_open_later};
+ghost use Rattle.tftp_loop.specs.RequestActions.{IsActionOn, MayOpenBy, may_open_later};
 ghost use Rattle.tftp_loop.specs.RequestActions.{refused_bytes, refused_to};
 ghost use Rattle.tftp_loop.specs.Longest.{IsBoundedFor, longest_in};
 ghost use Rattle.tftp_loop.specs.LoopStates.{HasAnswered, HasRoom, WorksRound, timer_of};
@@ -305,7 +305,7 @@ impl<S: ServedStore<Reason> + Drop> ServerLoop<S> {
         admission: Admission<'_>,
     )
         // The datagram may open a transfer by this admission.
-        requires action { IsOpening self.old datagram.from datagram.bytes.now admission }
+        requires action { MayOpenBy self.old datagram.from datagram.bytes.now admission }
         // The loop before the call.
         requires room { HasRoom self.old }
         requires reserved { vec_len self.old.ports < vec_capacity self.old.ports }
@@ -341,7 +341,7 @@ impl<S: ServedStore<Reason> + Drop> ServerLoop<S> {
         bound: ServerSocket,
     )
         // The datagram may open a transfer by this admission.
-        requires action { IsOpening self.old datagram.from datagram.bytes.now admission }
+        requires action { MayOpenBy self.old datagram.from datagram.bytes.now admission }
         // The port is of the pool, and nobody has it.
         requires port { IsOfPool self.old.sockets.pool bound }
         requires own { bound.port ≢ self.old.sockets.requests.port }

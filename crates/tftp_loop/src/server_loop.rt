@@ -10,7 +10,7 @@ ghost use Rattle.tftp_loop.specs.LoopStates.{AreBound, AreLong, FailsToPrint, Ha
 ghost use Rattle.tftp_loop.specs.LoopStates.{IsAtStart, IsEmptied};
 ghost use Rattle.tftp_loop.specs.LoopStates.{EndsRounds, OnlyWorks};
 ghost use Rattle.tftp_loop.specs.LoopStates.{WorksRound};
-ghost use Rattle.tftp_loop.specs.MayWait.{Finishes, HasRead, HasSlept, HasWaited, HasWoken, MayWait};
+ghost use Rattle.tftp_loop.specs.MayWait.{Finishes, HasRead, HasSlept, HasWaited, HasWoken, MayBeginWait};
 ghost use Rattle.tftp_loop.specs.MayWait.{AwaitVisit, HasFew, WereVisited, before_visit};
 ghost use Rattle.tftp_loop.specs.MayWait.{IsSurveyOf};
 ghost use Rattle.tftp_loop.specs.MayWait.{IsSettled, IsTended};
@@ -269,7 +269,7 @@ impl<S: ServedStore<Reason> + Drop> ServerLoop<S> {
     /// draft that is to be synced is synced before, if no datagram has arrived: all other transfers
     /// wait for it.
     fn wait<N: ServerUdp>(&mut self, net: &mut N, reports: &mut Reports)
-        requires { MayWait self.old (N.log net.old) }
+        requires { MayBeginWait self.old (N.log net.old) }
         ensures waits { HasWaited S.meaning S.Source.meaning self.old (N.log net.old) self.new
             (N.log net.new) }
         ensures file { N.file net.new ≡ N.file net.old }
@@ -294,7 +294,7 @@ impl<S: ServedStore<Reason> + Drop> ServerLoop<S> {
         tid: u16,
     )
         requires surveyed { IsSurveyOf self.old.ports.items survey }
-        requires may { MayWait self.old (N.log net.old) }
+        requires may { MayBeginWait self.old (N.log net.old) }
         ensures waits { HasWaited S.meaning S.Source.meaning self.old (N.log net.old) self.new
             (N.log net.new) }
         ensures file { N.file net.new ≡ N.file net.old }
@@ -331,7 +331,7 @@ impl<S: ServedStore<Reason> + Drop> ServerLoop<S> {
     /// Waits until a datagram has arrived or a port is to be read, for at most a second.
     fn sleep<N: ServerUdp>(&mut self, net: &mut N, reports: &mut Reports, survey: Survey)
         requires surveyed { IsSurveyOf self.old.ports.items survey }
-        requires may { MayWait self.old (N.log net.old) }
+        requires may { MayBeginWait self.old (N.log net.old) }
         ensures waits { HasWaited S.meaning S.Source.meaning self.old (N.log net.old) self.new
             (N.log net.new) }
         ensures file { N.file net.new ≡ N.file net.old }
