@@ -1,24 +1,28 @@
 -- A step that is lent a file, and a transfer that is held, as the server's list has them. For `Server::hold`,
 -- `Server::lend_sink` and `Server::lend_source`.
-use Rattle.std.proofs.Common.{◌≡◌, ℕ, List, Some, refl, sym, ap}
+use Rattle.std.proofs.Common.{◌≡◌, ℕ, List, Some, Result, Ok, Err, IfOk, refl, sym, ap}
 use Rattle.tftp_file.specs.declared.files.Files.{Files}
+use Rattle.tftp_ends.specs.declared.fault.EndFault.{EndFault}
 use Rattle.tftp_ends.specs.declared.outgoing.Outgoing.{Outgoing}
 use Rattle.tftp_ends.specs.declared.record.Step.{Step}
 use Rattle.tftp_ends.specs.End.{EndState}
 use Rattle.tftp_ends.specs.Step.{Turn, Lends, reported}
 use Rattle.tftp_server.specs.declared.config.Config.{Config}
 use Rattle.tftp_server.specs.CallersFiles.{StepsLent}
+use Rattle.tftp_server.specs.Fault.{by_end}
 use Rattle.tftp_server.specs.State.{TransferState, ServerState, at, with_new, with_next}
 use Rattle.tftp_server.specs.Steps.{with_end}
 
-module _ {F D : Type 0} (tid : ℕ) {held : List (ℕ × TransferState F D)} {transfer next : TransferState F D}
+module _ {F D : Type 0} (tid : ℕ) (held : List (ℕ × TransferState F D)) (transfer next : TransferState F D)
     (found : Some transfer ≡ at tid held) where
   -- the step of the transfer that was found
-  pub lent_step : (makes : EndState → Turn → Type 0) {step : Step} (outgoing : Outgoing) →
-      (turn : Turn) × makes transfer.end turn × Lends transfer.end turn next.end step.to outgoing
-      × (step ≡ reported transfer.end turn) × (next ≡ with_end next.end transfer) →
-      StepsLent makes tid held (with_next tid next held) step outgoing
-  lent_step makes outgoing h = search (sym found, ap (λ (t : TransferState F D). with_next tid t held) h.4)
+  pub lent_step : (makes : EndState → Turn → Type 0) (r : Result (Step × Outgoing) EndFault) →
+      IfOk r (λ answer. (turn : Turn) × makes transfer.end turn
+      × Lends transfer.end turn next.end answer.0.to answer.1
+      × (answer.0 ≡ reported transfer.end turn) × (next ≡ with_end next.end transfer)) →
+      IfOk (by_end r) (λ answer. StepsLent makes tid held (with_next tid next held) answer.0 answer.1)
+  lent_step makes (Ok answer) h = search (sym found, ap (λ (t : TransferState F D). with_next tid t held) h.4)
+  lent_step makes (Err fault) h = tt
 
 -- the server with a new transfer
 pub held_new : {S F D : Type 0} (config : Config) (store : S) (tid : ℕ)

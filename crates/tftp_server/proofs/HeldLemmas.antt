@@ -1,5 +1,5 @@
 -- A transfer that took a step is held as before. For `Server::handle_datagram` and `Server::handle_timeout`.
-use Rattle.std.proofs.Common.{◌≡◌, ℕ, Bool, List, [], ◌∷◌, Some, IsSome, refl, rules}
+use Rattle.std.proofs.Common.{◌≡◌, ℕ, Bool, List, [], ◌∷◌, Some, IsSome, Result, Ok, Err, OnOk, refl, rules}
 use mathlib.Core.Bool.{cond}
 use Rattle.std.specs.Map.{lookup, set_value}
 use Rattle.std.specs.BTreeMap.{is_at}
@@ -22,7 +22,8 @@ pub next_there : {T : Type 0} (tid : ℕ) (held : List (ℕ × T)) (was now : T)
     at tid held ≡ Some was → at tid (with_next tid now held) ≡ Some now
 next_there tid held was now h = set_there (is_at (nat_cmp tid)) held was now h
 
--- and so there is one
-pub still_held : {T : Type 0} (tid : ℕ) (held : List (ℕ × T)) (was now : T) →
-    Some was ≡ at tid held → IsSome (at tid (with_next tid now held))
-still_held {T = T} tid held was now found = search (rules, next_there)
+-- and so there is one, whatever the server returns
+pub still_held : {T R E : Type 0} (tid : ℕ) (held : List (ℕ × T)) (was now : T) (r : Result R E) →
+    Some was ≡ at tid held → OnOk r (IsSome (at tid (with_next tid now held)))
+still_held {T = T} tid held was now (Ok done) found = search (rules, next_there)
+still_held tid held was now (Err fault) found = tt

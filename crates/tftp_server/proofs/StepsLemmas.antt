@@ -1,7 +1,7 @@
 -- How a transfer handles a datagram with its file, and why an event was not handled. For eight functions and
 -- ShortageLemmas.
 use Rattle.std.proofs.Common.{◌≡◌, ◌↔◌, ℕ, Bool, true, false, List, Option, Some, Result, Ok, Err, refl, sym, ap, ◌∙◌}
-use Rattle.std.proofs.Common.{rules}
+use Rattle.std.proofs.Common.{rules, IfOk, IfErr, OnErr}
 use Rattle.std.specs.Prelude.{IsErrOf}
 use Rattle.std.proofs.lemmas.Map.Steps.{set_value_same}
 use Rattle.std.proofs.lemmas.Result.{err_from_is_err_and}
@@ -26,9 +26,10 @@ use Rattle.tftp_server.specs.declared.draft_sink.DraftSink.{DraftSink}
 use Rattle.tftp_server.specs.declared.fault.ServerFault.TheVariants as faults
 use Rattle.tftp_server.specs.declared.config.Config.{Config}
 use Rattle.tftp_server.specs.Draft.{Drafting, drafting_sink}
-use Rattle.tftp_server.specs.Fault.{of_end}
-use Rattle.tftp_server.specs.State.{TransferState, ServerState, is_closed, at, with_next}
-use Rattle.tftp_server.specs.Steps.{Gives, StepIn, TakesBy, TimesOutBy, TimeoutFault, DatagramFaultBy, with_end}
+use Rattle.tftp_server.specs.Fault.{by_end}
+use Rattle.tftp_server.specs.State.{TransferState, ServerState, is_closed, is_open, at, with_next}
+use Rattle.tftp_server.specs.Steps.{Gives, StepIn, TakesBy, TimesOutBy, TimeoutFault, DatagramFaultBy}
+use Rattle.tftp_server.specs.Steps.{TakesDatagramBy, with_end}
 use Rattle.tftp_store.specs.Store.{StoreMeaning}
 
 -- a draft sink by its values
@@ -104,48 +105,82 @@ handled_alike {F = F} {D = D} kind from bytes is h = search rules
 pub returned : {T E : Type 0} (r : Result T E) (fault : E) → IsErrAnd r (λ e. e ≡ fault) → r ≡ Err fault
 returned r fault h = let p = err_from_is_err_and r h in p.1 ∙ ap Err p.2
 
--- what follows from the fault of the end follows from that of the server
-pub when_closed : {R Q P : Type 0} (fault : EndFault) → (IsErrOf {T = R} (Err fault) ends.Closed → P) →
-    IsErrOf {T = Q} (Err (of_end fault)) faults.NoSuchTid → P
-when_closed ends.Closed then e = then refl
-when_closed ends.Memory then e = absurd (cc)
+module _ {R : Type 0} where
+  -- what follows from the fault of the end follows from that of the server
+  pub when_closed : {P : Type 0} (r : Result R EndFault) → (IsErrOf r ends.Closed → P) →
+      IsErrOf (by_end r) faults.NoSuchTid → P
+  when_closed (Ok done) then e = absurd (cc)
+  when_closed (Err ends.Closed) then e = then refl
+  when_closed (Err ends.Memory) then e = absurd (cc)
 
--- a fault of memory of the end is one of the server
-pub when_memory : {R Q P : Type 0} (fault : EndFault) → (IsErrOf {T = R} (Err fault) ends.Memory → P) →
-    IsErrOf {T = Q} (Err (of_end fault)) faults.Memory → P
-when_memory ends.Closed then e = absurd (cc)
-when_memory ends.Memory then e = then refl
+  pub when_memory : {P : Type 0} (r : Result R EndFault) → (IsErrOf r ends.Memory → P) →
+      IsErrOf (by_end r) faults.Memory → P
+  when_memory (Ok done) then e = absurd (cc)
+  when_memory (Err ends.Closed) then e = absurd (cc)
+  when_memory (Err ends.Memory) then e = then refl
+
+  -- and what follows from any fault
+  pub when_fault : {P Q : Type 0} (r : Result R EndFault) → (P → Q) → OnErr r P → OnErr (by_end r) Q
+  when_fault (Ok done) then h = tt
+  when_fault (Err fault) then h = then h
+
+  -- a fault that is never for lack of memory
+  pub never_memory : (r : Result R EndFault) → (IsErrOf r ends.Memory → ⊥) →
+      IfErr (by_end r) (λ fault. fault ≡ faults.NoSuchTid)
+  never_memory (Ok done) memory = tt
+  never_memory (Err ends.Closed) memory = refl
+  never_memory (Err ends.Memory) memory = absurd (memory refl)
+
+  -- the server has no such transfer exactly if the end is closed
+  pub no_such_tid : {P : Type 0} (r : Result R EndFault) → (IsErrOf r ends.Closed ↔ P) →
+      (IsErrOf (by_end r) faults.NoSuchTid ↔ P)
+  no_such_tid (Ok done) closed = search rules
+  no_such_tid (Err ends.Closed) closed = search rules
+  no_such_tid (Err ends.Memory) closed = search rules
 
 module _ {F D R : Type 0} (held : TransferState F D) where
-  -- and so is one that handled an event
+  -- a transfer that handled an event is open
   pub handled_open : (answer : R) → (IsErrOf {T = R} (Ok answer) ends.Closed ↔ (is_closed held ≡ true)) →
       is_closed held ≡ false
   handled_open answer closed = search rules
 
+  pub not_open : (r : Result R EndFault) → (IsErrOf r ends.Closed ↔ (is_closed held ≡ true)) →
+      (IsErrOf (by_end r) faults.NoSuchTid ↔ (is_open (Some held) ≡ false))
+  not_open r closed = no_such_tid r (search rules)
+
   -- why a timeout was not handled
-  pub timeout_fault : (fault : EndFault) → (IsErrOf {T = R} (Err fault) ends.Closed ↔ (is_closed held ≡ true)) →
-      (IsErrOf {T = R} (Err fault) ends.Memory →
+  pub timeout_fault : (r : Result R EndFault) → (IsErrOf r ends.Closed ↔ (is_closed held ≡ true)) →
+      (IsErrOf r ends.Memory →
       IsAnswered (timeout_action held.end.position.retries_left held.end.position.phase)) →
-      TimeoutFault (Some held) (of_end fault)
-  timeout_fault fault closed memory = search rules
+      IfErr (by_end r) (TimeoutFault (Some held))
+  timeout_fault (Ok done) closed memory = tt
+  timeout_fault (Err fault) closed memory = search rules
 
   -- why a datagram was not handled
-  pub datagram_fault : (kind : Action → Type 0) (from : Endpoint) (bytes : List ℕ) (fault : EndFault) →
-      (IsErrOf {T = R} (Err fault) ends.Closed ↔ (is_closed held ≡ true)) →
-      (IsErrOf {T = R} (Err fault) ends.Memory → (decoded : Option Packet) × Decodes bytes decoded
-      × kind (datagram_action held.end from bytes decoded)) → DatagramFaultBy kind from bytes (Some held) (of_end fault)
-  datagram_fault kind from bytes fault closed memory = search rules
+  pub datagram_fault : (kind : Action → Type 0) (from : Endpoint) (bytes : List ℕ) (r : Result R EndFault) →
+      (IsErrOf r ends.Closed ↔ (is_closed held ≡ true)) →
+      (IsErrOf r ends.Memory → (decoded : Option Packet) × Decodes bytes decoded
+      × kind (datagram_action held.end from bytes decoded)) →
+      IfErr (by_end r) (DatagramFaultBy kind from bytes (Some held))
+  datagram_fault kind from bytes (Ok done) closed memory = tt
+  datagram_fault kind from bytes (Err fault) closed memory = search rules
 
 -- ---- what is written back to the transfers
-module _ {F D : Type 0} (tid : ℕ) {held : List (ℕ × TransferState F D)} {transfer next : TransferState F D}
+module _ {F D R : Type 0} (tid : ℕ) (held : List (ℕ × TransferState F D)) (transfer next : TransferState F D)
     (found : Some transfer ≡ at tid held) where
   -- a timeout of the transfer is one of the table
-  pub times_out : (gives : Gives) {step : Step} → is_closed transfer ≡ false →
-      gives transfer.end (timeout_turn transfer.end) next.end step.to
-      × (step ≡ reported transfer.end (timeout_turn transfer.end)) × (next ≡ with_end next.end transfer) →
-      TimesOutBy gives tid held (with_next tid next held) step
-  times_out gives still h = search (sym found, ap (λ (t : TransferState F D). with_next tid t held) h.2)
+  pub times_out : (gives : R → Gives) (step : R → Step) (r : Result R EndFault) →
+      (IsErrOf r ends.Closed ↔ (is_closed transfer ≡ true)) →
+      IfOk r (λ a. gives a transfer.end (timeout_turn transfer.end) next.end (step a).to
+      × (step a ≡ reported transfer.end (timeout_turn transfer.end)) × (next ≡ with_end next.end transfer)) →
+      IfOk (by_end r) (λ a. TimesOutBy (gives a) tid held (with_next tid next held) (step a))
+  times_out gives step (Ok a) closed h =
+      let still = handled_open transfer a closed in
+      search (sym found, ap (λ (t : TransferState F D). with_next tid t held) h.2)
+  times_out gives step (Err fault) closed h = tt
 
+module _ {F D : Type 0} (tid : ℕ) {held : List (ℕ × TransferState F D)} {transfer next : TransferState F D}
+    (found : Some transfer ≡ at tid held) where
   -- writing an unchanged transfer back changes nothing of the server
   pub nothing_changed : {S : Type 0} {config : Config} {store store' : S} →
       (next ≡ transfer) × (store' ≡ store) →
@@ -153,3 +188,24 @@ module _ {F D : Type 0} (tid : ℕ) {held : List (ℕ × TransferState F D)} {tr
       (record { config = config; store = store; held = held })
   nothing_changed same =
       rw (same.0, same.1, set_value_same (is_at (nat_cmp tid)) held transfer (sym found)) refl
+
+-- a datagram of the transfer is one of the server
+module _ {S F D R : Type 0} (meaning : StoreMeaning S D) (sources : SourceMeaning F) (tid : ℕ) (from : Endpoint)
+    (bytes : List ℕ) (old : ServerState S F D) (store : S) (transfer next : TransferState F D)
+    (found : Some transfer ≡ at tid old.held) where
+  pub takes_datagram : (gives : R → Gives) (step : R → Step) (r : Result R EndFault) →
+      (IsErrOf r ends.Closed ↔ (is_closed transfer ≡ true)) →
+      IfOk r (λ a. TakesBy meaning sources (gives a) old.config.overwrite from bytes old.store store transfer next
+      (step a)) →
+      IfOk (by_end r) (λ a. TakesDatagramBy meaning sources (gives a) tid from bytes old
+      (record old { store = store; held = with_next tid next old.held }) (step a))
+  takes_datagram gives step (Ok a) closed h =
+      record {
+        transfer = transfer;
+        next = next;
+        found = sym found;
+        still = handled_open transfer a closed;
+        takes = h;
+        held = refl;
+      }
+  takes_datagram gives step (Err fault) closed h = tt

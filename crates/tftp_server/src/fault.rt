@@ -1,7 +1,7 @@
 //! Why a server did not handle an event.
 
 ghost use Rattle.std.specs.Prelude.{◌≡◌};
-ghost use Rattle.tftp_server.specs.Fault.{fault_number};
+ghost use Rattle.tftp_server.specs.Fault.{by_end, fault_number};
 
 use tftp_ends::EndFault;
 use thiserror::Error;
@@ -40,5 +40,15 @@ impl From<EndFault> for ServerFault {
             EndFault::Closed => ServerFault::NoSuchTid,
             EndFault::Memory => ServerFault::Memory,
         }
+    }
+}
+
+/// What a server returns for what an end returned.
+pub(crate) fn by_end<T>(returned: Result<T, EndFault>) -> Result<T, ServerFault>
+    ensures { result ≡ by_end returned }
+{
+    match returned {
+        Ok(done) => Ok(done),
+        Err(fault) => Err(ServerFault::from(fault)),
     }
 }

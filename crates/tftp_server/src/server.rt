@@ -27,7 +27,7 @@ ghost use Rattle.tftp_wire.specs.declared.packet.Packet.{Packet};
 ghost use Rattle.tftp_server.specs.Work.{WorksAt};
 
 use crate::config::Config;
-use crate::fault::ServerFault;
+use crate::fault::{ServerFault, by_end};
 use crate::open_transfers::OpenTransfers;
 pub use crate::server::admission::{Admission, Occupancy};
 use crate::table::Table;
@@ -124,7 +124,7 @@ impl<S: Store> Server<S> {
         let Some(transfer) = self.table.get_mut(tid) else {
             return Err(ServerFault::NoSuchTid);
         };
-        Ok(transfer.on_timeout(out)?)
+        by_end(transfer.on_timeout(out))
     }
 
     /// The transfer at the identifier handles a datagram from `from`. At most one datagram is
@@ -155,7 +155,7 @@ impl<S: Store> Server<S> {
         let Some(transfer) = self.table.get_mut(tid) else {
             return Err(ServerFault::NoSuchTid);
         };
-        Ok(transfer.on_datagram(&mut self.store, &self.config, from, bytes, out)?)
+        by_end(transfer.on_datagram(&mut self.store, &self.config, from, bytes, out))
     }
 
     /// The transfer at the identifier handles a timeout. Returns the datagram to send without a
@@ -176,7 +176,7 @@ impl<S: Store> Server<S> {
         let Some(transfer) = self.table.get_mut(tid) else {
             return Err(ServerFault::NoSuchTid);
         };
-        Ok(transfer.handle_timeout()?)
+        by_end(transfer.handle_timeout())
     }
 
     /// The transfer at the identifier handles a datagram from `from`. Returns the datagram to send
@@ -206,7 +206,7 @@ impl<S: Store> Server<S> {
         let Some(transfer) = self.table.get_mut(tid) else {
             return Err(ServerFault::NoSuchTid);
         };
-        Ok(transfer.handle_datagram(&mut self.store, &self.config, from, bytes)?)
+        by_end(transfer.handle_datagram(&mut self.store, &self.config, from, bytes))
     }
 
     /// A transfer that its caller holds ([`Server::release`]) handles a datagram from `from`, over

@@ -13,7 +13,7 @@ ghost use Rattle.tftp_server.specs.CallersFiles.{is_open_sender, is_open_receive
 ghost use Rattle.tftp_server.specs.Request.{ask_of};
 ghost use Rattle.tftp_server.specs.State.{at, with_new, without};
 
-use crate::fault::ServerFault;
+use crate::fault::{ServerFault, by_end};
 use crate::server::Server;
 use crate::server::admission::{Admission, PortAction, ReadRequest, WriteRequest};
 use crate::transfer::Transfer;
@@ -197,7 +197,7 @@ impl<S: Store> Server<S> {
         let Some(transfer) = self.table.get_mut(tid) else {
             return Err(ServerFault::NoSuchTid);
         };
-        Ok(transfer.lend_source(source, from, bytes)?)
+        by_end(transfer.lend_source(source, from, bytes))
     }
 
     /// As [`Server::handle_datagram`], for a transfer that stores: its end is lent `sink` for the
@@ -224,7 +224,7 @@ impl<S: Store> Server<S> {
         let Some(transfer) = self.table.get_mut(tid) else {
             return Err(ServerFault::NoSuchTid);
         };
-        Ok(transfer.lend_sink(sink, from, bytes)?)
+        by_end(transfer.lend_sink(sink, from, bytes))
     }
 }
 

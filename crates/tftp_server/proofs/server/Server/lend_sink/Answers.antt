@@ -1,16 +1,20 @@
 -- What the transfer at the identifier does is what the server does; its fault is the server's.
 use Rattle.std.proofs.Common.{refl}
 use Rattle.tftp_server.proofs.CallersLemmas.{lent_step}
-use Rattle.tftp_server.proofs.StepsLemmas.{nothing_changed, returned}
+use Rattle.tftp_server.proofs.StepsLemmas.{no_such_tid, nothing_changed, when_fault}
 use Rattle.tftp_server.proofs.server.Server.lend_sink.Goals as goal
 
 pub returns-clause-steps : goal.returns-clause-steps
 returns-clause-steps g c =
-    rw (← c.self.view_is) (lent_step _ c.in-Some.ensures.value _ _ c.in_ok-lend_sink.ensures.steps)
+    rw (← c.self.view_is, c.by_end.ensures)
+    (lent_step c.args.tid _ c.in-Some.transfer.now _ c.in-Some.ensures.value _ c.lend_sink.result c.lend_sink.ensures.steps)
 
-pub returns-in_err-lend_sink-clause-err : goal.returns-in_err-lend_sink-clause-err
-returns-in_err-lend_sink-clause-err g c =
-    rw (returned _ _ c.from_residual.ensures.1, ← c.self.view_is) (
-      nothing_changed c.args.tid c.in-Some.ensures.value (c.in_err-lend_sink.ensures.err.0, refl),
-      c.in_err-lend_sink.ensures.err.1,
-    )
+pub returns-clause-no_such_tid : goal.returns-clause-no_such_tid
+returns-clause-no_such_tid g c =
+    rw (← c.self.view_is, ← c.in-Some.ensures.value, c.by_end.ensures)
+    (no_such_tid c.lend_sink.result c.lend_sink.ensures.closed)
+
+pub returns-clause-err : goal.returns-clause-err
+returns-clause-err g c =
+    rw (← c.self.view_is, c.by_end.ensures) (when_fault c.lend_sink.result
+    (λ h. (nothing_changed c.args.tid c.in-Some.ensures.value (h.0, refl), h.1)) c.lend_sink.ensures.err)
