@@ -270,10 +270,7 @@ impl<S: Store> Server<S> {
             (length self.now.held)) }
         ensures memory { IfErr result (λ fault. fault ≡ ServerFault.Memory) }
     {
-        match self.table.append_tids(out) {
-            Ok(()) => Ok(()),
-            Err(_) => Err(ServerFault::Memory),
-        }
+        self.table.append_tids(out)
     }
 
     /// An iterator over the open transfers, in rising order of identifier: the identifier and the

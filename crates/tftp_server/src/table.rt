@@ -13,10 +13,11 @@ ghost use Rattle.tftp_server.specs.Table.{IsKeyFor, AnyKeyRepeats, IsSpot};
 ghost use Rattle.std.specs.BTreeMap.{insert_entry, is_at};
 ghost use Rattle.std.specs.Ordering.{nat_cmp};
 
+use crate::fault::ServerFault;
 use crate::open_transfers::OpenTransfers;
 use crate::transfer::Transfer;
 use slab::Slab;
-use std::alloc::{AllocError, Global};
+use std::alloc::Global;
 use std::collections::BTreeMap;
 use std::marker::Model;
 use tftp_ends::Endpoint;
@@ -79,11 +80,12 @@ impl<T> Table<T> {
     }
 
     /// Appends the identifiers in rising order. It appends none when out of memory.
-    pub(crate) fn append_tids(&self, out: &mut Vec<u16>) -> Result<(), AllocError>
+    pub(crate) fn append_tids(&self, out: &mut Vec<u16>) -> Result<(), ServerFault>
         ensures ok { OnOk result (out.new.items ≡ out.old.items ++ keys_of self.now) }
         ensures err { OnErr result (out.new.items ≡ out.old.items) }
         ensures why { OnErr result (HasNoRoom (vec_capacity out.old) (vec_len out.old)
             (length self.now)) }
+        ensures memory { IfErr result (λ fault. fault ≡ ServerFault.Memory) }
     {
         append_keys(&self.index, out)
     }
@@ -170,13 +172,18 @@ impl<T: Drop> Table<T> {
     }
 
     /// Puts a value at an identifier that holds none. When out of memory, nothing has changed.
-    pub(crate) fn insert(&mut self, tid: u16, value: T) -> Result<(), AllocError>
+    pub(crate) fn insert(&mut self, tid: u16, value: T) -> Result<(), ServerFault>
         requires { lookup (is_at (nat_cmp tid)) self.old ≡ None }
         ensures ok { OnOk result (self.new ≡ insert_entry nat_cmp self.old tid value) }
         ensures err { OnErr result (self.new ≡ self.old) }
+        ensures memory { IfErr result (λ fault. fault ≡ ServerFault.Memory) }
     {
-        self.slots.reserve(1)?;
-        self.index.insert(tid, self.slots.vacant_key())?;
+        let Ok(()) = self.slots.reserve(1) else {
+            return Err(ServerFault::Memory);
+        };
+        let Ok(_) = self.index.insert(tid, self.slots.vacant_key()) else {
+            return Err(ServerFault::Memory);
+        };
         self.slots.insert_reserved(value);
         Ok(())
     }
@@ -220,13 +227,16 @@ impl<T: Drop> Spot<T> {
 }
 
 /// Appends the keys in order. It appends none when out of memory.
-fn append_keys(index: &BTreeMap<u16, usize>, out: &mut Vec<u16>) -> Result<(), AllocError>
+fn append_keys(index: &BTreeMap<u16, usize>, out: &mut Vec<u16>) -> Result<(), ServerFault>
     ensures ok { OnOk result (out.new.items ≡ out.old.items ++ keys_of index.now.entries) }
     ensures err { OnErr result (out.new.items ≡ out.old.items) }
     ensures why { OnErr result (HasNoRoom (vec_capacity out.old) (vec_len out.old)
         (length index.now.entries)) }
+    ensures memory { IfErr result (λ fault. fault ≡ ServerFault.Memory) }
 {
-    out.reserve(index.len())?;
+    let Ok(()) = out.reserve(index.len()) else {
+        return Err(ServerFault::Memory);
+    };
     for tid in index.keys() {
         out.push_reserved(*tid);
     }

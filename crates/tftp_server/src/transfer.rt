@@ -259,12 +259,18 @@ impl<F: Source, D> Transfer<F, D> {
             config.now.overwrite store.old store.new self.old self.new
             × (out.new.items ≡ out.old.items)) }
     {
-        self.end().reserve_answer(from, bytes, out)?;
-        let (step, outgoing) = self.handle_datagram(store, config, from, bytes)?;
-        let Ok(()) = out.extend_from_slice(self.bytes_of(outgoing)) else {
-            unreachable!()
-        };
-        Ok(step)
+        match self.end().reserve_answer(from, bytes, out) {
+            Ok(()) => match self.handle_datagram(store, config, from, bytes) {
+                Ok((step, outgoing)) => {
+                    let Ok(()) = out.extend_from_slice(self.bytes_of(outgoing)) else {
+                        unreachable!()
+                    };
+                    Ok(step)
+                }
+                Err(fault) => Err(fault),
+            },
+            Err(fault) => Err(fault),
+        }
     }
 
     /// As [`Transfer::on_datagram`], but [`Transfer::bytes_of`] lends the datagram.

@@ -17,6 +17,7 @@ use crate::fault::{ServerFault, by_end};
 use crate::server::Server;
 use crate::server::admission::{Admission, PortAction, ReadRequest, WriteRequest};
 use crate::transfer::Transfer;
+use std::alloc::Global;
 use tftp_ends::{End, Endpoint, ErrorReply, Outgoing, Record, Step};
 use tftp_file::{Files, Path, Sink, Source};
 use tftp_store::Store;
@@ -86,6 +87,27 @@ fn path_in(action: PortAction<'_>) -> Option<Path>
     }
 }
 
+/// The path of an admitted request, and a copy of its datagram. `NoSuchTid` if the admission opens
+/// no transfer.
+fn asked(alloc: Global, admission: Admission<'_>) -> Result<(Path, Vec<u8>), ServerFault>
+    ensures path { IfOk result (λ asked. asked_path admission.entry.ask ≡ Some asked.0) }
+    ensures request { IfOk result (λ asked. asked.1.items ≡ admission.entry.bytes) }
+    ensures in_use { IsErrOf result ServerFault.TidInUse → ⊥ }
+    ensures no_such_tid { IsErrOf result ServerFault.NoSuchTid
+        → asked_path admission.entry.ask ≡ None }
+    ensures memory { IsErrOf result ServerFault.Memory
+        → IsSome (asked_path admission.entry.ask) }
+{
+    let Admission { incoming, action } = admission;
+    let Some(path) = path_in(action) else {
+        return Err(ServerFault::NoSuchTid);
+    };
+    let Ok(request) = Vec::from_slice(alloc, incoming.bytes) else {
+        return Err(ServerFault::Memory);
+    };
+    Ok((path, request))
+}
+
 impl<S: Store> Server<S> {
     /// Holds an end that the caller opened for an admitted request, under an unused identifier.
     /// Its steps are [`Server::lend_source`] or [`Server::lend_sink`].
@@ -117,39 +139,16 @@ impl<S: Store> Server<S> {
             → IsSome (asked_path admission.entry.ask) }
         ensures err { OnErr result (self.new ≡ self.old) }
     {
-        match self.asked(admission, tid) {
-            Ok((path, request)) => {
-                let transfer = Transfer::new(end, files, path, request);
-                let Ok(()) = self.table.insert(tid, transfer) else {
-                    return Err(ServerFault::Memory);
-                };
-                Ok(())
-            }
-            Err(fault) => Err(fault),
-        }
-    }
-
-    /// The path of an admitted request, and a copy of its datagram, for an unused identifier.
-    fn asked(&self, admission: Admission<'_>, tid: u16) -> Result<(Path, Vec<u8>), ServerFault>
-        ensures path { IfOk result (λ asked. asked_path admission.entry.ask ≡ Some asked.0) }
-        ensures request { IfOk result (λ asked. asked.1.items ≡ admission.entry.bytes) }
-        ensures in_use { IsErrOf result ServerFault.TidInUse ↔ IsSome (at tid self.now.held) }
-        ensures no_such_tid { IsErrOf result ServerFault.NoSuchTid
-            → asked_path admission.entry.ask ≡ None }
-        ensures memory { IsErrOf result ServerFault.Memory
-            → IsSome (asked_path admission.entry.ask) }
-    {
         if self.table.contains(tid) {
             return Err(ServerFault::TidInUse);
         }
-        let Admission { incoming, action } = admission;
-        let Some(path) = path_in(action) else {
-            return Err(ServerFault::NoSuchTid);
-        };
-        let Ok(request) = Vec::from_slice(self.alloc, incoming.bytes) else {
-            return Err(ServerFault::Memory);
-        };
-        Ok((path, request))
+        match asked(self.alloc, admission) {
+            Ok((path, request)) => {
+                let transfer = Transfer::new(end, files, path, request);
+                self.table.insert(tid, transfer)
+            }
+            Err(fault) => Err(fault),
+        }
     }
 
     /// How many timeouts the transfer at the identifier has had since its opening or its last

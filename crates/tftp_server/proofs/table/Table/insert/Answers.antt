@@ -8,19 +8,19 @@ use Rattle.tftp_server.proofs.table.Table.insert.Goals as goal
 pub invariant_of-self : goal.invariant_of-self
 invariant_of-self g c = IsJoined-same _ _ _ (ap (λ s. s.slots) c.reserve.ensures.rest_kept) c.self.invariant
 
-pub returns-in_err-reserve-clause-err : goal.returns-in_err-reserve-clause-err
-returns-in_err-reserve-clause-err g c = search (rules, on_err, joined-same)
+pub returns-in_default-clause-err : goal.returns-in_default-clause-err
+returns-in_default-clause-err g c = search (rules, on_err, joined-same)
 
-pub invariant_of-self-in_err-insert : goal.invariant_of-self-in_err-insert
-invariant_of-self-in_err-insert g c =
-    IsJoined-kept _ _ _ _ c.in_err-insert.ensures.err (ap (λ s. s.slots) c.reserve.ensures.rest_kept) c.self.invariant
+pub invariant_of-self-in_default-insert : goal.invariant_of-self-in_default-insert
+invariant_of-self-in_default-insert g c =
+    IsJoined-kept _ _ _ _ c.in_default-insert.ensures.err (ap (λ s. s.slots) c.reserve.ensures.rest_kept) c.self.invariant
 
-pub returns-in_err-insert-clause-err : goal.returns-in_err-insert-clause-err
-returns-in_err-insert-clause-err g c = search (rules, on_err, joined-kept)
+pub returns-in_default-insert-clause-err : goal.returns-in_default-insert-clause-err
+returns-in_default-insert-clause-err g c = search (rules, on_err, joined-kept)
 
 pub invariant_of-self-2 : goal.invariant_of-self-2
 invariant_of-self-2 g c =
-    IsJoined-after_insert _ _ _ _ _ _ _ _ c.in_ok-insert.ensures.entries (ap (λ (s : Slab g.row.T.Denot). s.slots)
+    IsJoined-after_insert _ _ _ _ _ _ _ _ c.in-Ok-insert.ensures.entries (ap (λ (s : Slab g.row.T.Denot). s.slots)
     c.reserve.ensures.rest_kept) c.self.invariant c.vacant_key.ensures.vacant (updates_at _ _ _ _ _
     (c.insert_reserved.ensures.key ∙ sym c.vacant_key.ensures.value) c.insert_reserved.ensures.updates)
 
