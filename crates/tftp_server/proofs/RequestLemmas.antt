@@ -22,10 +22,9 @@ use Rattle.tftp_ends.specs.declared.error_reply.ErrorReply.{ErrorReply}
 use Rattle.tftp_server.specs.declared.config.Config.{Config}
 use Rattle.tftp_server.specs.declared.fault.ServerFault.{ServerFault}
 use Rattle.tftp_server.specs.declared.opened.Opened.{Opened}
-use Rattle.tftp_server.specs.declared.server.admission.PortAction.{PortAction}
 use Rattle.tftp_server.specs.Port.{Ask, Ignores, IsAnsweredBy, Refuses, asks, begin_reply, unopened_by}
 use Rattle.tftp_server.specs.Request.{Acts, Admits, CarriesOut, Goes, RequestStep, Came, Error_reply, A_transfer, IsRequest, AsksToWrite}
-use Rattle.tftp_server.specs.Request.{Decides, ask_of, left_by}
+use Rattle.tftp_server.specs.Request.{Decides, left_by}
 use Rattle.tftp_server.specs.declared.server.reply.Unopened.{Unopened}
 use Rattle.tftp_server.specs.declared.server.reply.Unopened.TheVariants as unopened
 use Rattle.tftp_server.specs.State.{TransferState, ServerState, IsRepeated, with_new}
@@ -60,17 +59,11 @@ module _ {S F D : Type 0} (old : ServerState S F D) (from : Endpoint) (bytes : L
   abbrev asked_now : Ask
   asked_now = asks old.config.cap (length old.held) repeated old.config.limits bytes decoded
 
-  admits_by : (ask : Ask) → ask ≡ asked_now → Admits old from bytes ask
-  admits_by ask h = search rules
+  pub admits_so : (ask : Ask) → ask ≡ asked_now → Admits old from bytes ask
+  admits_so ask h = search rules
 
-  pub admits_so : {E : Type 0} (r : Result PortAction E) → IfOk r (λ asked. ask_of asked ≡ asked_now) →
-      IfOk r (λ asked. Admits old from bytes (ask_of asked))
-  admits_so (Ok asked) h = admits_by (ask_of asked) h
-  admits_so (Err fault) h = tt
-
-  pub acts_so : {T E : Type 0} (r : Result T E) → OnErr r (asked_now ≢ Ignores) → OnErr r (Acts old from bytes)
-  acts_so (Ok done) h = tt
-  acts_so (Err fault) h = (asked_now, admits_by asked_now refl, h)
+  pub acts_so : asked_now ≢ Ignores → Acts old from bytes
+  acts_so h = (asked_now, admits_so asked_now refl, h)
 
 module _ {S F D : Type 0} (meaning : StoreMeaning S D) (sources : SourceMeaning F) (old : ServerState S F D)
     (from : Endpoint) (bytes : List ℕ) where

@@ -4,8 +4,6 @@ use Rattle.std.proofs.Common.{◌≡◌, ◌↔◌, ℕ, Bool, true, false, List
 use Rattle.std.proofs.Common.{rules, IfOk, IfErr, OnErr}
 use Rattle.std.specs.Prelude.{IsErrOf}
 use Rattle.std.proofs.lemmas.Map.Steps.{set_value_same}
-use Rattle.std.proofs.lemmas.Result.{err_from_is_err_and}
-use Rattle.std.specs.Result.{IsErrAnd}
 use Rattle.std.specs.BTreeMap.{is_at}
 use Rattle.std.specs.Ordering.{nat_cmp}
 use Rattle.tftp_file.specs.Source.{SourceMeaning}
@@ -101,10 +99,7 @@ pub handled_alike : {F D : Type 0} (kind : Action → Type 0) (from : Endpoint) 
     (decoded : Option Packet) × Decodes bytes decoded × kind (datagram_action same.end from bytes decoded)
 handled_alike {F = F} {D = D} kind from bytes is h = search rules
 
--- what the exit of a `?` returns
-pub returned : {T E : Type 0} (r : Result T E) (fault : E) → IsErrAnd r (λ e. e ≡ fault) → r ≡ Err fault
-returned r fault h = let p = err_from_is_err_and r h in p.1 ∙ ap Err p.2
-
+-- ---- what a server returns for what an end returned
 module _ {R : Type 0} where
   -- what follows from the fault of the end follows from that of the server
   pub when_closed : {P : Type 0} (r : Result R EndFault) → (IsErrOf r ends.Closed → P) →

@@ -1,13 +1,9 @@
 //! An iterator over the open transfers of a server.
 
-ghost use Rattle.std.specs.Prelude.{◌≡◌};
 ghost use Rattle.std.specs.Iterator.{YieldsFirst, item_count};
-ghost use Rattle.tftp_server.specs.State.{open_records};
-ghost use Rattle.tftp_server.specs.Table.{joined};
 
 use crate::transfer::Transfer;
 use slab::Slab;
-use std::collections::BTreeMap;
 use std::collections::btree_map::Iter;
 use std::iter::FusedIterator;
 use std::marker::Model;
@@ -19,8 +15,8 @@ use tftp_ends::Record;
 /// `F` and `D` are the types of the store's sources and drafts.
 #[derive(Drop)]
 pub struct OpenTransfers<'a, F, D> {
-    index: Iter<'a, u16, usize>,
-    slots: &'a Slab<Transfer<F, D>>,
+    pub(crate) index: Iter<'a, u16, usize>,
+    pub(crate) slots: &'a Slab<Transfer<F, D>>,
 }
 
 impl<'a, F, D> Model for OpenTransfers<'a, F, D> {
@@ -32,21 +28,6 @@ impl<'a, F, D> Model for OpenTransfers<'a, F, D> {
     ghost Value = { List (ℕ × Record) };
 
     ghost view = { λ o. open_records (joined o.index o.slots.now) };
-}
-
-impl<'a, F, D> OpenTransfers<'a, F, D> {
-    /// An iterator over the open transfers in the slots that the index names.
-    pub(crate) fn new(
-        index: &'a BTreeMap<u16, usize>,
-        slots: &'a Slab<Transfer<F, D>>,
-    ) -> OpenTransfers<'a, F, D>
-        ensures { result ≡ open_records (joined index.now.entries slots.now) }
-    {
-        OpenTransfers {
-            index: index.iter(),
-            slots,
-        }
-    }
 }
 
 impl<'a, F, D> Iterator for OpenTransfers<'a, F, D> {

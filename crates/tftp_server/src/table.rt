@@ -113,7 +113,10 @@ impl<F, D> Table<Transfer<F, D>> {
     pub(crate) fn open_transfers(&self) -> OpenTransfers<'_, F, D>
         ensures { result ≡ open_records self.now }
     {
-        OpenTransfers::new(&self.index, &self.slots)
+        OpenTransfers {
+            index: self.index.iter(),
+            slots: &self.slots,
+        }
     }
 
     /// Whether one of them is open and was requested from `from` by this packet.

@@ -78,13 +78,6 @@ impl<F, D> Transfer<F, D> {
         }
     }
 
-    /// Its end.
-    pub(crate) fn end(&self) -> &End
-        ensures { result.now ≡ self.now.end }
-    {
-        &self.end
-    }
-
     /// The record of its end.
     pub fn record(&self) -> Record
         ensures { result ≡ record_of self.now.end }
@@ -259,7 +252,7 @@ impl<F: Source, D> Transfer<F, D> {
             config.now.overwrite store.old store.new self.old self.new
             × (out.new.items ≡ out.old.items)) }
     {
-        match self.end().reserve_answer(from, bytes, out) {
+        match self.end.reserve_answer(from, bytes, out) {
             Ok(()) => match self.handle_datagram(store, config, from, bytes) {
                 Ok((step, outgoing)) => {
                     let Ok(()) = out.extend_from_slice(self.bytes_of(outgoing)) else {
@@ -332,16 +325,9 @@ impl<F: Drop, D> Transfer<F, D> {
         ensures { result ≡ draft_of self.files }
     {
         let Transfer { files, .. } = self;
-        draft_in(files)
-    }
-}
-
-/// The draft, if the files are one.
-fn draft_in<F: Drop, D>(files: Files<F, D>) -> Option<D>
-    ensures { result ≡ draft_of files }
-{
-    match files {
-        Files::Source(_) => None,
-        Files::Sink(draft) => Some(draft),
+        match files {
+            Files::Source(_) => None,
+            Files::Sink(draft) => Some(draft),
+        }
     }
 }

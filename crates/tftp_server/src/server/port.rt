@@ -2,10 +2,9 @@
 
 ghost use Rattle.std.specs.Prelude.{◌≡◌, ◌≢◌, IfOk, IfErr, OnErr, IsOk, option_map};
 ghost use Rattle.tftp_wire.specs.Borrowed.{owned};
-ghost use Rattle.tftp_negotiate.specs.Answer.{answer};
 ghost use Rattle.tftp_negotiate.specs.Ranges.{IsBlockSize};
 ghost use Rattle.tftp_file.specs.Path.{path_of_name};
-ghost use Rattle.tftp_server.specs.Port.{Ignores, asks, by_kind, by_name, by_options, by_room};
+ghost use Rattle.tftp_server.specs.Port.{Ignores, asks, by_kind, by_name, by_room};
 ghost use Rattle.tftp_server.specs.Request.{IsRequest, ask_of, kind_and_request};
 ghost use Rattle.tftp_server.specs.Shortage.{NamesNewPath};
 
@@ -16,7 +15,7 @@ use crate::server::reply::accept_reply;
 use std::alloc::Global;
 use tftp_ends::ErrorReply;
 use tftp_file::{Path, PathFault, path_of};
-use tftp_negotiate::{Kind, Limits, accept_ref};
+use tftp_negotiate::{Kind, accept_ref};
 use tftp_wire::{PacketRef, RequestRef, has_error_opcode};
 
 /// The request and its kind, if it is one.
@@ -87,7 +86,9 @@ fn by_name<'a>(
     }
 }
 
-/// The server must be below its limit of transfers.
+/// The server must be below its limit of transfers. A read then asks the store, and a write has its
+/// options answered first: the length of its file is known from `tsize` alone (RFC 2349, "Transfer
+/// Size Option Specification").
 fn by_room<'a>(
     config: &Config,
     count: usize,
@@ -102,35 +103,16 @@ fn by_room<'a>(
     if count >= usize::from(config.cap) {
         return PortAction::Refuse(ErrorReply::ServerBusy);
     }
-    by_kind(kind, path, request, &config.limits)
-}
-
-/// A read asks the store next, a write has its options answered first.
-fn by_kind<'a>(kind: Kind, path: Path, request: RequestRef<'a>, limits: &Limits) -> PortAction<'a>
-    requires { IsBlockSize limits.now.max_block }
-    ensures { ask_of result ≡ by_kind kind request.entry.mode request.entry.options limits.now
-        path }
-{
+    let RequestRef { mode, options, .. } = request;
     match kind {
         Kind::Read => PortAction::Read(ReadRequest {
             path,
-            mode: request.mode,
-            options: request.options,
+            mode,
+            options,
         }),
-        Kind::Write => by_options(path, request, limits),
-    }
-}
-
-/// The options of a write are answered before the store is asked: the length of its file is known
-/// from `tsize` alone (RFC 2349, "Transfer Size Option Specification").
-fn by_options<'a>(path: Path, request: RequestRef<'a>, limits: &Limits) -> PortAction<'a>
-    requires { IsBlockSize limits.now.max_block }
-    ensures { ask_of result ≡ by_options path request.entry.mode
-        (answer request.entry.options Kind.Write request.entry.mode 0 limits.now) }
-{
-    let mode = request.mode;
-    match accept_ref(&request.options, Kind::Write, mode, 0, limits) {
-        Ok(agreed) => PortAction::Write(WriteRequest { path, mode, agreed }),
-        Err(refusal) => PortAction::Refuse(accept_reply(refusal)),
+        Kind::Write => match accept_ref(&options, kind, mode, 0, &config.limits) {
+            Ok(agreed) => PortAction::Write(WriteRequest { path, mode, agreed }),
+            Err(refusal) => PortAction::Refuse(accept_reply(refusal)),
+        },
     }
 }

@@ -80,28 +80,18 @@ impl<S: Store> Server<S> {
         ensures acts { OnErr result (Acts self.now from bytes.now) }
         ensures why { OnErr result (NamesAPath self.now from bytes.now) }
     {
-        match self.decide(from, bytes) {
+        let decoded = decode_packet(bytes);
+        let occupancy = Occupancy {
+            count: self.table.len(),
+            is_repeated: self.table.is_repeated(from, &decoded),
+        };
+        match by_packet(self.alloc, &self.config, occupancy, bytes, decoded) {
             Ok(action) => Ok(Admission {
                 incoming: Incoming { from, bytes },
                 action,
             }),
             Err(_) => Err(ServerFault::Memory),
         }
-    }
-
-    /// The tests that ask no store, by the transfers in the table.
-    fn decide<'a>(&self, from: Endpoint, bytes: &'a [u8]) -> Result<PortAction<'a>, ServerFault>
-        ensures asks { IfOk result (λ action. Admits self.now from bytes.now (ask_of action)) }
-        ensures memory { IfErr result (λ fault. fault ≡ ServerFault.Memory) }
-        ensures acts { OnErr result (Acts self.now from bytes.now) }
-        ensures why { OnErr result (NamesAPath self.now from bytes.now) }
-    {
-        let decoded = decode_packet(bytes);
-        let occupancy = Occupancy {
-            count: self.table.len(),
-            is_repeated: self.table.is_repeated(from, &decoded),
-        };
-        by_packet(self.alloc, &self.config, occupancy, bytes, decoded)
     }
 
     /// As [`Server::admit`], for a caller that holds the transfers itself ([`Server::release`]):

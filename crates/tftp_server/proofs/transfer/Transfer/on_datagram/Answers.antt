@@ -1,15 +1,12 @@
 -- The step that appends its answer is the one that lends it.
-use Rattle.std.proofs.Common.{subst}
-use Rattle.tftp_ends.specs.Action.{HandledBy}
-use Rattle.tftp_ends.specs.End.{EndState}
 use Rattle.tftp_ends.specs.Step.{IsAnswered}
 use Rattle.tftp_ends.proofs.Appending.{file_is_answered, passed}
+use Rattle.tftp_server.proofs.StepsLemmas.{handled_alike}
 use Rattle.tftp_server.proofs.transfer.Transfer.on_datagram.Goals as goal
 
 pub returns-in-Err-clause-memory : goal.returns-in-Err-clause-memory
 returns-in-Err-clause-memory g c = λ e.
-    subst (λ (end : EndState). HandledBy IsAnswered c.args.from c.args.bytes.now end) c.end.ensures
-    (c.in-Err.ensures.memory (passed _ _ e))
+    handled_alike IsAnswered c.args.from c.args.bytes.now c.self.view_is (c.in-Err.ensures.memory (passed _ _ e))
 
 pub returns-in-Err-handle_datagram-clause-memory : goal.returns-in-Err-handle_datagram-clause-memory
 returns-in-Err-handle_datagram-clause-memory g c = λ e.
