@@ -1,8 +1,8 @@
 -- How a transfer handles a datagram with its file, and why an event was not handled. For eight functions and
 -- ShortageLemmas.
-use Rattle.std.proofs.Common.{◌≡◌, ◌↔◌, ℕ, Bool, true, false, List, Option, Some, Result, Ok, Err, refl, sym, ap, ◌∙◌}
+use Rattle.std.proofs.Common.{◌≡◌, ◌↔◌, ℕ, Bool, true, false, List, Option, Some, Result, Ok, Err, refl, sym, ap}
 use Rattle.std.proofs.Common.{rules, IfOk, IfErr, OnErr}
-use Rattle.std.specs.Prelude.{IsErrOf}
+use Rattle.std.specs.Prelude.{IsErrOf, not}
 use Rattle.std.proofs.lemmas.Map.Steps.{set_value_same}
 use Rattle.std.specs.BTreeMap.{is_at}
 use Rattle.std.specs.Ordering.{nat_cmp}
@@ -129,19 +129,39 @@ module _ {R : Type 0} where
   -- the server has no such transfer exactly if the end is closed
   pub no_such_tid : {P : Type 0} (r : Result R EndFault) → (IsErrOf r ends.Closed ↔ P) →
       (IsErrOf (by_end r) faults.NoSuchTid ↔ P)
-  no_such_tid (Ok done) closed = search rules
-  no_such_tid (Err ends.Closed) closed = search rules
-  no_such_tid (Err ends.Memory) closed = search rules
+  no_such_tid (Ok done) closed = (
+    λ e. absurd (cc),
+    λ p. let e : ◌≡◌ {A = Result R EndFault} (Ok done) (Err ends.Closed) = closed.1 p in absurd (cc),
+  )
+  no_such_tid (Err ends.Closed) closed = (λ e. closed.0 refl, λ p. refl)
+  no_such_tid (Err ends.Memory) closed = (
+    λ e. absurd (cc),
+    λ p. let e : ◌≡◌ {A = Result R EndFault} (Err ends.Memory) (Err ends.Closed) = closed.1 p in absurd (cc),
+  )
+
+-- a Bool is one of the two
+not_false : (b : Bool) → not b ≡ false → b ≡ true
+not_false true h = refl
+not_false false h = absurd (cc)
+
+not_true : (b : Bool) → (b ≡ true → ⊥) → b ≡ false
+not_true true h = absurd (h refl)
+not_true false h = refl
 
 module _ {F D R : Type 0} (held : TransferState F D) where
-  -- a transfer that handled an event is open
+  -- a transfer that handled an event is open, and so is one that was out of memory
   pub handled_open : (answer : R) → (IsErrOf {T = R} (Ok answer) ends.Closed ↔ (is_closed held ≡ true)) →
       is_closed held ≡ false
-  handled_open answer closed = search rules
+  handled_open answer closed =
+      not_true (is_closed held) (λ is. let e : ◌≡◌ {A = Result R EndFault} (Ok answer) (Err ends.Closed) = closed.1 is in cc)
+
+  short_open : (IsErrOf {T = R} (Err ends.Memory) ends.Closed ↔ (is_closed held ≡ true)) → is_closed held ≡ false
+  short_open closed =
+      not_true (is_closed held) (λ is. let e : ◌≡◌ {A = Result R EndFault} (Err ends.Memory) (Err ends.Closed) = closed.1 is in cc)
 
   pub not_open : (r : Result R EndFault) → (IsErrOf r ends.Closed ↔ (is_closed held ≡ true)) →
       (IsErrOf (by_end r) faults.NoSuchTid ↔ (is_open (Some held) ≡ false))
-  not_open r closed = no_such_tid r (search rules)
+  not_open r closed = no_such_tid r (λ e. ap not (closed.0 e), λ h. closed.1 (not_false (is_closed held) h))
 
   -- why a timeout was not handled
   pub timeout_fault : (r : Result R EndFault) → (IsErrOf r ends.Closed ↔ (is_closed held ≡ true)) →
@@ -149,7 +169,8 @@ module _ {F D R : Type 0} (held : TransferState F D) where
       IsAnswered (timeout_action held.end.position.retries_left held.end.position.phase)) →
       IfErr (by_end r) (TimeoutFault (Some held))
   timeout_fault (Ok done) closed memory = tt
-  timeout_fault (Err fault) closed memory = search rules
+  timeout_fault (Err ends.Closed) closed memory = ap not (closed.0 refl)
+  timeout_fault (Err ends.Memory) closed memory = (short_open closed, memory refl)
 
   -- why a datagram was not handled
   pub datagram_fault : (kind : Action → Type 0) (from : Endpoint) (bytes : List ℕ) (r : Result R EndFault) →
@@ -158,7 +179,10 @@ module _ {F D R : Type 0} (held : TransferState F D) where
       × kind (datagram_action held.end from bytes decoded)) →
       IfErr (by_end r) (DatagramFaultBy kind from bytes (Some held))
   datagram_fault kind from bytes (Ok done) closed memory = tt
-  datagram_fault kind from bytes (Err fault) closed memory = search rules
+  datagram_fault kind from bytes (Err ends.Closed) closed memory = ap not (closed.0 refl)
+  datagram_fault kind from bytes (Err ends.Memory) closed memory =
+      let short = memory refl in
+      (short_open closed, short.0, short.1, short.2)
 
 -- ---- what is written back to the transfers
 module _ {F D R : Type 0} (tid : ℕ) (held : List (ℕ × TransferState F D)) (transfer next : TransferState F D)

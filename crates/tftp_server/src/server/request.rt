@@ -81,11 +81,11 @@ impl<S: Store> Server<S> {
         ensures why { OnErr result (NamesAPath self.now from bytes.now) }
     {
         let decoded = decode_packet(bytes);
-        let occupancy = Occupancy {
+        let found = Occupancy {
             count: self.table.len(),
             is_repeated: self.table.is_repeated(from, &decoded),
         };
-        match by_packet(self.alloc, &self.config, occupancy, bytes, decoded) {
+        match by_packet(self.alloc, &self.config, found, bytes, decoded) {
             Ok(action) => Ok(Admission {
                 incoming: Incoming { from, bytes },
                 action,

@@ -1,4 +1,5 @@
 -- The step that appends its answer is the one that lends it.
+use Rattle.std.proofs.Common.{rules}
 use Rattle.tftp_ends.specs.Step.{IsAnswered}
 use Rattle.tftp_ends.proofs.Appending.{file_is_answered, passed}
 use Rattle.tftp_server.proofs.StepsLemmas.{handled_alike}
@@ -11,3 +12,15 @@ returns-in-Err-clause-memory g c = λ e.
 pub returns-in-Err-handle_datagram-clause-memory : goal.returns-in-Err-handle_datagram-clause-memory
 returns-in-Err-handle_datagram-clause-memory g c = λ e.
     file_is_answered c.args.from c.args.bytes.now c.args.self.now.end (c.in-Err-handle_datagram.ensures.memory (passed _ _ e))
+
+pub returns-in-Ok-extend_from_slice-clause-takes : goal.returns-in-Ok-extend_from_slice-clause-takes
+returns-in-Ok-extend_from_slice-clause-takes g c = search rules
+
+pub returns-in-Err-clause-why : goal.returns-in-Err-clause-why
+returns-in-Err-clause-why g c = search rules
+
+pub returns-in-Err-clause-err : goal.returns-in-Err-clause-err
+returns-in-Err-clause-err g c = search rules
+
+pub returns-in-Err-handle_datagram-clause-why : goal.returns-in-Err-handle_datagram-clause-why
+returns-in-Err-handle_datagram-clause-why g c = search rules
