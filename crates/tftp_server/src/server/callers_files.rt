@@ -2,8 +2,7 @@
 //! step of a transfer is lent its source or its sink.
 
 ghost use Rattle.std.specs.Prelude.{◌≡◌, ◌↔◌, ◌⊎◌, List, ℕ, Some, None, false, option_copied};
-ghost use Rattle.std.specs.Prelude.{option_map};
-ghost use Rattle.std.specs.Prelude.{is_some, if◌then◌else◌, IfOk, IfErr, IsErrOf, IsSome, OnOk, OnErr};
+ghost use Rattle.std.specs.Prelude.{option_map, IfOk, IsErrOf, IsSome, OnOk, OnErr};
 ghost use Rattle.tftp_ends.specs.Backoff.{timeouts_of};
 ghost use Rattle.tftp_ends.specs.End.{record_of};
 ghost use Rattle.tftp_ends.specs.Files.{AreFilesOf, KeepsSource, KeepsSink};

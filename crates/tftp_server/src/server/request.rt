@@ -11,7 +11,7 @@ ghost use Rattle.tftp_server.specs.Port.{Ask, Ignores, asks, asks_store, by_file
 ghost use Rattle.tftp_server.specs.Port.{granted_size};
 ghost use Rattle.tftp_server.specs.Request.{Acts, Admits, AdmitsBeside, AsksToRead, AsksToWrite};
 ghost use Rattle.tftp_server.specs.Request.{Came};
-ghost use Rattle.tftp_server.specs.Request.{CarriesOut, Decides, RequestStep, Sent, ask_of};
+ghost use Rattle.tftp_server.specs.Request.{CarriesOut, Decides, RequestStep, Sent};
 ghost use Rattle.tftp_server.specs.Request.{decided_bytes, left_by};
 ghost use Rattle.tftp_server.specs.Shortage.{AskLacksMemory, NamesAPath, ReadLacksMemory};
 ghost use Rattle.tftp_server.specs.Shortage.{RequestLacksMemory, ServiceLacksMemory};

@@ -8,7 +8,9 @@ use Rattle.tftp_server.proofs.StepsLemmas.{source_taken, draft_taken, drafting_n
 use Rattle.tftp_server.proofs.transfer.Transfer.handle_datagram.Goals as goal
 
 pub returns-in-Source-clause-takes : goal.returns-in-Source-clause-takes
-returns-in-Source-clause-takes g c = search (rules, source_taken)
+returns-in-Source-clause-takes g c =
+    rw (← c.self.view_is, c.in-Source.is) (IfOk-weaker c.handle_datagram_as_sender.result _ _
+    (λ answer h. source_taken _ g.F.Source.meaning h) c.handle_datagram_as_sender.ensures.steps)
 
 pub returns-in-Source-clause-memory : goal.returns-in-Source-clause-memory
 returns-in-Source-clause-memory g c = λ memory.
@@ -32,7 +34,9 @@ returns-in-Sink-clause-memory g c = λ memory.
     (c.handle_datagram_as_receiver.ensures.memory memory)
 
 pub returns-in-Sink-clause-why : goal.returns-in-Sink-clause-why
-returns-in-Sink-clause-why g c = search (rules, draft_lacked, drafting_now)
+returns-in-Sink-clause-why g c = λ memory.
+    rw (← c.self.view_is, c.in-Sink.is) (draft_lacked _ _ _ _ _ refl (drafting_now c.handle_datagram_as_receiver.new.sink
+    c.store-1.given.1 c.handle_datagram_as_receiver.ensures.same) (c.handle_datagram_as_receiver.ensures.why memory))
 
 pub returns-in-Sink-clause-err : goal.returns-in-Sink-clause-err
 returns-in-Sink-clause-err g c =

@@ -24,3 +24,21 @@ returns-in-Err-clause-err g c = search rules
 
 pub returns-in-Err-handle_datagram-clause-why : goal.returns-in-Err-handle_datagram-clause-why
 returns-in-Err-handle_datagram-clause-why g c = search rules
+
+pub returns-in-Err-clause-closed : goal.returns-in-Err-clause-closed
+returns-in-Err-clause-closed g c = search rules
+
+pub returns-in-Err-clause-unmoved : goal.returns-in-Err-clause-unmoved
+returns-in-Err-clause-unmoved g c = search rules
+
+pub returns-in-Err-handle_datagram-clause-closed : goal.returns-in-Err-handle_datagram-clause-closed
+returns-in-Err-handle_datagram-clause-closed g c = search rules
+
+pub returns-in-Err-handle_datagram-clause-unmoved : goal.returns-in-Err-handle_datagram-clause-unmoved
+returns-in-Err-handle_datagram-clause-unmoved g c = search rules
+
+pub returns-in-Err-handle_datagram-clause-err : goal.returns-in-Err-handle_datagram-clause-err
+returns-in-Err-handle_datagram-clause-err g c = search rules
+
+pub returns-in-Ok-extend_from_slice-clause-closed : goal.returns-in-Ok-extend_from_slice-clause-closed
+returns-in-Ok-extend_from_slice-clause-closed g c = search rules
