@@ -19,3 +19,12 @@ returns-in_default-clause-err g c =
     let start : c.len-start.result ≡ length c.args.out.now.items = search rules in
     rw (← c.self.view_is) (not_held _ _ _ _ _ _ c.in_default.ensures.err
     (cut_back _ _ _ _ _ start c.in-Ok.ensures.sent c.truncate.ensures.items))
+
+pub returns-in_default-clause-why : goal.returns-in_default-clause-why
+returns-in_default-clause-why g c = search rules
+
+pub returns-in-Err-clause-why : goal.returns-in-Err-clause-why
+returns-in-Err-clause-why g c = search rules
+
+pub returns-in-Err-clause-err : goal.returns-in-Err-clause-err
+returns-in-Err-clause-err g c = search rules
