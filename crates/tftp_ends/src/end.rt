@@ -186,10 +186,8 @@ impl End {
     }
 
     /// How the end handles a packet from its peer, or from the server while the peer is unknown.
-    /// `sends` is whether it is a sender: as a constant, it keeps the other side's code out.
     #[inline(always)]
-    fn packet_action(&self, sends: bool, from: Endpoint, decoded: &Option<PacketRef<'_>>) -> Action
-        requires { is_sender self.now.role.side ≡ sends }
+    fn packet_action(&self, from: Endpoint, decoded: &Option<PacketRef<'_>>) -> Action
         ensures action { result
             ≡ packet_action self.now from (option_map owned decoded.now) self.now.position.phase }
         ensures fits { ActionFits self.now result }
@@ -198,16 +196,13 @@ impl End {
         let role = self.role;
         match self.phase {
             Phase::Waiting { asked, limit } => {
-                if sends {
+                if role.side.is_sender() {
                     writer_action(role.mode, &asked, limit, role.length, from, decoded)
                 } else {
                     reader_action(role.mode, &asked, limit, from, decoded)
                 }
             }
             Phase::Sending { terms, number } => {
-                if !sends {
-                    unreachable!()
-                }
                 sender_action(role.side, role.length, terms, number, decoded)
             }
             Phase::Receiving { terms, number } => receiver_action(
@@ -224,9 +219,8 @@ impl End {
     }
 
     /// How the end handles a datagram: it tests the sender first, and then for a malformed ERROR.
-    #[inline(always)]
-    fn datagram_action(&self, sends: bool, from: Endpoint, bytes: &[u8]) -> Action
-        requires { is_sender self.now.role.side ≡ sends }
+    #[inline(never)]
+    pub(crate) fn datagram_action(&self, from: Endpoint, bytes: &[u8]) -> Action
         ensures action { (decoded : Option Packet) × Decodes bytes.now decoded
             × (result ≡ datagram_action self.now from bytes.now decoded) }
         ensures fits { ActionFits self.now result }
@@ -244,64 +238,7 @@ impl End {
         if is_error && decoded.is_none() {
             return Action::Respond(self.garbled_response());
         }
-        self.packet_action(sends, from, &decoded)
-    }
-
-    /// How a receiver handles any datagram.
-    #[inline(never)]
-    pub(crate) fn action_as_receiver(&self, from: Endpoint, bytes: &[u8]) -> Action
-        requires { is_sender self.now.role.side ≡ false }
-        ensures action { (decoded : Option Packet) × Decodes bytes.now decoded
-            × (result ≡ datagram_action self.now from bytes.now decoded) }
-        ensures fits { ActionFits self.now result }
-        ensures bytes { BytesFit self.now bytes.now result }
-    {
-        self.datagram_action(false, from, bytes)
-    }
-
-    /// How a sender handles any datagram.
-    #[inline(never)]
-    pub(crate) fn action_as_sender(&self, from: Endpoint, bytes: &[u8]) -> Action
-        requires { is_sender self.now.role.side ≡ true }
-        ensures action { (decoded : Option Packet) × Decodes bytes.now decoded
-            × (result ≡ datagram_action self.now from bytes.now decoded) }
-        ensures fits { ActionFits self.now result }
-        ensures bytes { BytesFit self.now bytes.now result }
-    {
-        self.datagram_action(true, from, bytes)
-    }
-
-    /// What holds of every end.
-    #[inline(always)]
-    fn sound(&self)
-        ensures { IsSound self.now }
-    {
-        let _role = self.role;
-    }
-
-    /// How a receiver that has stored `stored` blocks handles a DATA from its peer.
-    #[inline(always)]
-    fn data_step(
-        &self,
-        from: Endpoint,
-        bytes: &[u8],
-        terms: Terms,
-        stored: u16,
-        block: u16,
-        piece: &[u8],
-    ) -> Action
-        requires phase { self.now.position.phase ≡ Receiving terms stored }
-        requires peer { is_wrong_peer (terms_of self.now.position.phase)
-            self.now.position.last_sent_to from ≡ false }
-        requires spelled { Spells (Data block piece.now) bytes.now }
-        ensures action { result
-            ≡ datagram_action self.now from bytes.now (Some (Data block piece.now)) }
-        ensures fits { ActionFits self.now result }
-        ensures bytes { BytesFit self.now bytes.now result }
-        ensures agreed { IsBy terms result }
-    {
-        self.sound();
-        data_action(self.role.mode, self.decoder, terms, stored, block, piece)
+        self.packet_action(from, &decoded)
     }
 
     /// The block that a receiver stores next, if the datagram is its DATA from the peer, as most are.
@@ -330,7 +267,7 @@ impl End {
         let Some((block, piece)) = data_in(bytes) else {
             return None;
         };
-        let action = self.data_step(from, bytes, agreed, number, block, piece);
+        let action = data_action(self.role.mode, self.decoder, agreed, number, block, piece);
         match action {
             Action::Store {
                 terms,
@@ -343,23 +280,6 @@ impl End {
             Action::Send { .. } => None,
             Action::Respond(_) => None,
         }
-    }
-
-    /// How a sender handles the ACK of its newest DATA from its peer.
-    #[inline(always)]
-    fn ack_step(&self, from: Endpoint, bytes: &[u8], terms: Terms, number: u16) -> Action
-        requires phase { self.now.position.phase ≡ Sending terms number }
-        requires peer { is_wrong_peer (terms_of self.now.position.phase)
-            self.now.position.last_sent_to from ≡ false }
-        requires spelled { Spells (Ack number) bytes.now }
-        ensures action { result
-            ≡ datagram_action self.now from bytes.now (Some (Ack number)) }
-        ensures fits { ActionFits self.now result }
-        ensures bytes { BytesFit self.now bytes.now result }
-        ensures agreed { IsBy terms result }
-    {
-        self.sound();
-        acked_action(self.role.length, terms, number, number)
     }
 
     /// The block that a sender sends next, if the datagram is the ACK of its newest from the peer, as
@@ -388,7 +308,7 @@ impl End {
         if !acknowledges(bytes, number) {
             return None;
         }
-        let action = self.ack_step(from, bytes, agreed, number);
+        let action = acked_action(self.role.length, agreed, number, number);
         match action {
             Action::Send {
                 terms,

@@ -53,9 +53,13 @@ impl End {
         ensures files { AreFilesOf self.new.role.side files.new }
     {
         self.reserve_answer(from, bytes, out)?;
-        let (step, outgoing) = self.handle_datagram(files, from, bytes)?;
-        self.append_outgoing(outgoing, out);
-        Ok(step)
+        match self.handle_datagram(files, from, bytes) {
+            Ok((step, outgoing)) => {
+                self.append_outgoing(outgoing, out);
+                Ok(step)
+            }
+            Err(fault) => Err(fault),
+        }
     }
 
     /// Delivers a timeout: [`End::interval`] seconds have passed since the opening, the last
@@ -86,18 +90,6 @@ impl End {
         Ok(step)
     }
 
-    /// How the end handles any datagram, whichever its role.
-    fn any_action(&self, from: Endpoint, bytes: &[u8]) -> Action
-        ensures { (decoded : Option Packet) × Decodes bytes.now decoded
-            × (result ≡ datagram_action self.now from bytes.now decoded) }
-    {
-        if self.role.side.is_sender() {
-            self.action_as_sender(from, bytes)
-        } else {
-            self.action_as_receiver(from, bytes)
-        }
-    }
-
     /// Reserves capacity in `out` for the answer to a datagram, so that it can be appended after the
     /// step. `Closed` if the end is closed, and `Memory` only if there is a datagram to send.
     pub fn reserve_answer(
@@ -124,7 +116,7 @@ impl End {
         // Whichever packet the bytes are said to spell, they are handled by one action.
         laws::one_meaning();
         laws::fault_or_packet();
-        Ok(out.reserve(self.room(self.any_action(from, bytes)))?)
+        Ok(out.reserve(self.room(self.datagram_action(from, bytes)))?)
     }
 
     /// Appends the datagram to send, in reserved capacity.

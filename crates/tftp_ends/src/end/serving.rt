@@ -26,16 +26,14 @@ use crate::waiting::{agreed_terms, can_be_numbered, default_terms};
 use std::alloc::{AllocError, Global};
 use tftp_file::{Files, Sink, Source};
 use tftp_negotiate::{Agreed, DEFAULT_BLOCK, laws};
-use tftp_wire::{HEADER, MAX_REQUEST, Mode, append_ack, append_oack_header};
+use tftp_wire::{HEADER, MAX_REQUEST, Mode, append_oack_header};
 
 /// ACK 0.
 fn first_ack(alloc: Global) -> Result<Vec<u8>, AllocError>
     ensures ok { IfOk result (λ v. v.items ≡ ack_bytes 0) }
     ensures room { IfOk result (λ v. HEADER ≤ vec_capacity v) }
 {
-    let mut bytes = Vec::with_capacity(alloc, HEADER)?;
-    append_ack(&mut bytes, 0)?;
-    Ok(bytes)
+    Vec::from_slice(alloc, b"\x00\x04\x00\x00")
 }
 
 /// The OACK of the agreed options.
