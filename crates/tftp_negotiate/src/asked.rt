@@ -1,10 +1,11 @@
 //! The options that a client requests.
 
-ghost use Rattle.std.specs.Prelude.{◌≡◌, ◌↔◌, ◌++◌, ◌<◌, ◌+◌, IsTrue};
+ghost use Rattle.std.specs.Prelude.{◌≡◌, ◌↔◌, ◌++◌, ◌<◌, ◌+◌, IfSome, IsTrue};
 ghost use Rattle.arrayvec.specs.ArrayVec.{array_vec_len};
 ghost use Rattle.tftp_negotiate.specs.Agreed.{agreed_options};
 ghost use Rattle.tftp_negotiate.specs.Asked.{IsAskable, IsFor, asked_tsize, asked_options};
 ghost use Rattle.tftp_negotiate.specs.Asked.{known_if};
+ghost use Rattle.tftp_negotiate.specs.Ranges.{IsBlockSize, IsTimeout};
 
 use crate::known::{Kind, Known};
 use crate::limits::{is_block_size, is_timeout};
@@ -32,22 +33,23 @@ impl Asked {
     pub fn is_for(&self, kind: Kind, mode: Mode, length: u64) -> bool
         ensures { IsTrue result ↔ IsFor self.now kind mode length }
     {
-        let tsize = match kind {
-            Kind::Read => 0,
-            Kind::Write => length,
+        if !self.is_askable() {
+            return false;
+        }
+        let Some(tsize) = self.tsize_in(mode) else {
+            return true;
         };
-        self.is_askable() && self.tsize_in(mode).is_none_or(|n| n == tsize)
+        match kind {
+            Kind::Read => tsize == 0,
+            Kind::Write => tsize == length,
+        }
     }
 
     /// Whether `blksize` and `timeout`, if requested, are in their ranges.
     pub fn is_askable(&self) -> bool
         ensures { IsTrue result ↔ IsAskable self.now }
     {
-        self.blksize
-            .is_none_or(|size| is_block_size(u64::from(size)))
-            && self
-                .timeout
-                .is_none_or(|seconds| is_timeout(u64::from(seconds)))
+        may_ask_size(self.blksize) && may_ask_timeout(self.timeout)
     }
 
     /// The options requested in this mode, in the order of the request.
@@ -68,6 +70,26 @@ impl Asked {
             Mode::Octet => self.tsize,
             Mode::Netascii => None,
         }
+    }
+}
+
+/// Whether this block size, if there is one, may be requested.
+fn may_ask_size(size: Option<u16>) -> bool
+    ensures { IsTrue result ↔ IfSome size IsBlockSize }
+{
+    match size {
+        Some(size) => is_block_size(u64::from(size)),
+        None => true,
+    }
+}
+
+/// Whether this timeout, if there is one, may be requested.
+fn may_ask_timeout(timeout: Option<u8>) -> bool
+    ensures { IsTrue result ↔ IfSome timeout IsTimeout }
+{
+    match timeout {
+        Some(seconds) => is_timeout(u64::from(seconds)),
+        None => true,
     }
 }
 

@@ -45,10 +45,7 @@ pub(crate) fn negotiate_slice(options: &[RawOption], policy: &Policy) -> Result<
     ensures agreed { result ≡ negotiated (judged policy.now) options.now }
     ensures rule { IfOk result IsAgreement }
 {
-    let borrowed = options.iter().map(|option| OptionRef {
-        name: option.name.as_slice(),
-        value: option.value.as_slice(),
-    });
+    let borrowed = options.iter().map(RawOption::as_ref);
     negotiate(borrowed, policy)
 }
 

@@ -116,9 +116,7 @@ pub fn append_oack_header(out: &mut Vec<u8>) -> Result<(), AllocError>
     ensures room { vec_len out.old + 2 ≤ vec_capacity out.old → IsOk result }
     ensures capacity { vec_capacity out.old ≤ vec_capacity out.new }
 {
-    out.reserve(2)?;
-    put_number(out, OACK);
-    Ok(())
+    out.extend_from_slice(&OACK.to_be_bytes())
 }
 
 /// Appends an option of a request or of an OACK.

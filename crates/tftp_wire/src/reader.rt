@@ -137,10 +137,10 @@ fn read_ack(bytes: &[u8]) -> Result<PacketRef<'_>, PacketFault>
     ensures { Reads owned (packet_of 4 bytes.now) (ack_fault bytes.now) result }
 {
     let block = read_number(bytes)?;
-    match trailing(&bytes[HEADER..], HEADER) {
-        Some(fault) => Err(fault),
-        None => Ok(PacketRef::Ack { block }),
+    if bytes.len() > HEADER {
+        return Err(fault_at(PacketFaultKind::Trailing, HEADER));
     }
+    Ok(PacketRef::Ack { block })
 }
 
 fn read_error(bytes: &[u8]) -> Result<PacketRef<'_>, PacketFault>
@@ -153,10 +153,11 @@ fn read_error(bytes: &[u8]) -> Result<PacketRef<'_>, PacketFault>
     let code = read_number(bytes)?;
     let (_, body) = bytes.split_at(4);
     let (text, rest) = read_text(body, 4)?;
-    match trailing(rest, bytes.len() - rest.len()) {
-        Some(fault) => Err(fault),
-        None => Ok(PacketRef::Error { code, text }),
+    if !rest.is_empty() {
+        let at = bytes.len() - rest.len();
+        return Err(fault_at(PacketFaultKind::Trailing, at));
     }
+    Ok(PacketRef::Error { code, text })
 }
 
 fn read_oack(bytes: &[u8]) -> Result<PacketRef<'_>, PacketFault>
@@ -171,17 +172,6 @@ fn read_oack(bytes: &[u8]) -> Result<PacketRef<'_>, PacketFault>
     }
     let (_, body) = bytes.split_at(2);
     Ok(PacketRef::Oack(read_options(body, 2)?))
-}
-
-/// The fault of bytes after a packet, which begin at offset `at` in the datagram.
-fn trailing(rest: &[u8], at: usize) -> Option<PacketFault>
-    ensures { result ≡ first_row (row (not (length rest.now == 0)) Trailing at ∷ []) None }
-{
-    if rest.is_empty() {
-        None
-    } else {
-        Some(fault_at(PacketFaultKind::Trailing, at))
-    }
 }
 
 /// The number after the opcode.
@@ -212,7 +202,10 @@ fn mode_of(word: &[u8]) -> Option<Mode>
 fn read_text(bytes: &[u8], at: usize) -> Result<(&[u8], &[u8]), PacketFault>
     ensures { SplitsText at bytes.now result }
 {
-    split_text(bytes).ok_or(fault_at(PacketFaultKind::Unterminated, at))
+    match split_text(bytes) {
+        Some(parts) => Ok(parts),
+        None => Err(fault_at(PacketFaultKind::Unterminated, at)),
+    }
 }
 
 /// The options that begin at offset `at` in the datagram and extend to its end.
@@ -221,17 +214,10 @@ fn read_options(bytes: &[u8], at: usize) -> Result<OptionsRef<'_>, PacketFault>
     ensures { Reads (λ options. options) (options_in bytes.now) (bytes_fault at bytes.now) result }
 {
     let mut rest = bytes;
-    while has_more(rest) {
+    while !rest.is_empty() {
         rest = skip_option(rest, at + (bytes.len() - rest.len()))?;
     }
     Ok(OptionsRef::new(bytes))
-}
-
-/// Whether another option follows: an option always has bytes.
-fn has_more(rest: &[u8]) -> bool
-    ensures { IsTrue result ↔ (0 < length rest.now) }
-{
-    !rest.is_empty()
 }
 
 /// The bytes after the option that begins at offset `at` in the datagram.

@@ -23,5 +23,10 @@ fn first_zero(bytes: &[u8]) -> Option<usize>
 pub fn is_text(bytes: &[u8]) -> bool
     ensures { IsTrue result ↔ IsText bytes.now }
 {
-    bytes.iter().all(|byte| *byte != 0)
+    for byte in bytes {
+        if *byte == 0 {
+            return false;
+        }
+    }
+    true
 }

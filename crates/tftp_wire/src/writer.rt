@@ -54,7 +54,12 @@ fn is_request(request: &Request) -> bool
 fn are_options(options: &[RawOption]) -> bool
     ensures { IsTrue result ↔ AllByRecursion IsOption options.now }
 {
-    options.iter().all(|option| is_option(option))
+    for option in options {
+        if !is_option(option) {
+            return false;
+        }
+    }
+    true
 }
 
 fn is_option(option: &RawOption) -> bool
