@@ -9,11 +9,9 @@ mod sides;
 mod storing;
 
 ghost use Rattle.std.specs.Prelude.{◌≡◌, ◌↔◌, ◌≤◌, length, option_map, Option};
-ghost use Rattle.std.specs.Prelude.{Some, false, true, IfOk, IfSome, OnErr, IsErrOf, IsSome, is_some};
+ghost use Rattle.std.specs.Prelude.{Some, true, IfOk, IfSome, OnErr, IsErrOf, IsSome, is_some};
 ghost use Rattle.tftp_wire.specs.Borrowed.{owned};
-ghost use Rattle.tftp_wire.specs.Spelling.{Spells};
 ghost use Rattle.tftp_wire.specs.declared.packet.Packet.{Packet};
-ghost use Rattle.tftp_wire.specs.declared.packet.Packet.TheVariants.{Ack, Data};
 ghost use Rattle.tftp_ends.specs.declared.action.Action.TheVariants.{Send, Store};
 ghost use Rattle.tftp_ends.specs.declared.phase.Phase.TheVariants.{Receiving, Sending};
 
@@ -25,7 +23,7 @@ use crate::fault::EndFault;
 use crate::next_block::NextBlock;
 use crate::outcome::Outcome;
 use crate::outgoing::Outgoing;
-use crate::phase::{Dally, Phase, Terms};
+use crate::phase::{Dally, Phase};
 use crate::receiver::{dally_response, data_action, receiver_action};
 use crate::record::{DEFAULT_INTERVAL, Held, Record, Step};
 use crate::role::Role;

@@ -1,29 +1,24 @@
 -- The first fault of a datagram, text by text. For five functions and SpellingLemmas.
-use Rattle.std.proofs.Common.{ℕ, ◌≡◌, ◌≢◌, ◌+◌, ◌-◌, ◌≤◌, Bool, true, false, cond, not, eqb, ⊎_elim, refl, ap, sym, ◌∙◌}
-use Rattle.std.proofs.Common.{arith, List, [], ◌∷◌, ◌++◌, length, drop, Option, Some, None, MatchOption, rules}
-use Rattle.std.specs.Borrow.{Bor}
-use Rattle.std.specs.Option.{ok_or}
+use Rattle.std.proofs.Common.{ℕ, ◌≡◌, ◌≢◌, ◌+◌, ◌-◌, ◌≤◌, Bool, true, false, cond, ⊎_elim, refl, ap, sym, ◌∙◌}
+use Rattle.std.proofs.Common.{arith, List, [], ◌∷◌, ◌++◌, length, drop, Option, Some, None, rules}
 use Rattle.std.specs.List.{AllByRecursion, flat_map}
-use Rattle.std.proofs.lemmas.Bool.{le-ltb, ltb-false, eqb-false}
+use Rattle.std.proofs.lemmas.Bool.{le-ltb, ltb-false}
 use Rattle.std.proofs.lemmas.Bool.Decides.{eqb_tells}
 use Rattle.std.proofs.lemmas.List.{append-nil, append_assoc, length-append}
 use Rattle.tftp_wire.specs.declared.fault.PacketFault.{PacketFault}
-use Rattle.tftp_wire.specs.declared.fault.PacketFaultKind.TheVariants.{Unterminated, Trailing}
+use Rattle.tftp_wire.specs.declared.fault.PacketFaultKind.TheVariants.{Trailing}
 use Rattle.tftp_wire.specs.declared.limits.TheConstants.{MAX_REQUEST}
 use Rattle.tftp_wire.specs.declared.options.RawOption.{RawOption}
 use Rattle.tftp_wire.specs.declared.mode.Mode.{Mode}
 use Rattle.tftp_wire.specs.Texts.{IsText, zero_ended, texts, with_first, unended, unended_with}
 use Rattle.tftp_wire.specs.Options.{IsOption, options_bytes, paired, options_in, AreOptions}
 use Rattle.tftp_wire.specs.Reading.{options_fault, mode_in, request_fault, message_fault, number_fault, error_fault}
-use Rattle.tftp_wire.specs.Parts.{bytes_fault, request_of, BeginsWith, SplitsText}
-use Rattle.tftp_wire.proofs.TextsLemmas.{texts_first, texts_none, unended_rest, unended_all}
+use Rattle.tftp_wire.specs.Parts.{bytes_fault, request_of, BeginsWith}
+use Rattle.tftp_wire.proofs.TextsLemmas.{texts_first, unended_rest}
 
--- the two parts at the first zero byte, as a reader returns them
-pub text_split : (at : ℕ) (bytes : List ℕ) (r : Option (Bor (List ℕ) × Bor (List ℕ)))
-    → MatchOption r (IsText bytes) (λ parts. IsText parts.0.now × (bytes ≡ zero_ended parts.0.now ++ parts.1.now))
-    → SplitsText at bytes (ok_or r (record { kind = Unterminated; at = at }))
-text_split at bytes r h =
-    search (rules, texts_none, unended_all, texts_first, unended_rest, length-append)
+-- the two parts at the first zero byte
+pub text_split : (bytes text rest : List ℕ) → IsText text → bytes ≡ zero_ended text ++ rest → BeginsWith bytes text rest
+text_split bytes text rest t h = search (rules, texts_first, unended_rest, length-append)
 
 -- an option with a name
 pub named_option : (at : ℕ) (name value : List ℕ) (others : List (List ℕ)) (rest : List ℕ) → length name ≢ 0
@@ -123,17 +118,9 @@ text_left : (text : List ℕ) (ts : List (List ℕ)) (u rest : List ℕ) → fla
     → length rest ≢ 0 → message_fault (text ∷ ts) u ≡ Some (record { kind = Trailing; at = 4 + (length text + 1) })
 text_left text ts u rest e h = search rules
 
--- the bytes after a packet
-trailing_is : (b : Bool) (x fault : PacketFault) → cond (not b) (Some x) None ≡ Some fault
-    → (b ≡ false) × (Some x ≡ Some fault)
-trailing_is true x fault h = cc
-trailing_is false x fault h = (refl, h)
-
 -- bytes after the text of an ERROR
-pub error_trailing : (bytes text rest : List ℕ) (fault : PacketFault) → length bytes ≤ MAX_REQUEST
-    → number_fault bytes ≡ None → length (drop 4 bytes) ≡ length bytes - 4 → BeginsWith (drop 4 bytes) text rest
-    → cond (not (eqb (length rest) 0)) (Some (record { kind = Trailing; at = length bytes - length rest })) None
-    ≡ Some fault
-    → error_fault bytes ≡ Some fault
-error_trailing bytes text rest fault most number shorter t found =
-    search (rules, guard_none, ltb-false, trailing_is, le-ltb, text_left, texts_joined, eqb-false)
+pub error_trailing : (bytes text rest : List ℕ) → length bytes ≤ MAX_REQUEST → number_fault bytes ≡ None
+    → length (drop 4 bytes) ≡ length bytes - 4 → BeginsWith (drop 4 bytes) text rest → length rest ≢ 0
+    → error_fault bytes ≡ Some (record { kind = Trailing; at = length bytes - length rest })
+error_trailing bytes text rest most number shorter t left =
+    search (rules, guard_none, ltb-false, le-ltb, text_left, texts_joined)

@@ -1,17 +1,16 @@
 //! Decodes a datagram, for owned and borrowed packets, and finds its first fault.
 
-ghost use Rattle.std.specs.Prelude.{◌≡◌, ◌≤◌, ◌+◌, ◌-◌, ◌<◌, ◌^◌, ◌==◌, ◌∷◌, [], not, None, length};
-ghost use Rattle.std.specs.Prelude.{drop, IfOk, IfErr, IfSome, IsSomeAnd, MatchResult, IsOkAnd, IsTrue};
-ghost use Rattle.std.specs.Prelude.{◌↔◌, List, ℕ};
+ghost use Rattle.std.specs.Prelude.{◌≡◌, ◌≤◌, ◌+◌, ◌-◌, ◌<◌, ◌^◌, ◌==◌, None, length};
+ghost use Rattle.std.specs.Prelude.{drop, IfOk, IfErr, IfSome, IsSomeAnd, MatchResult, IsOkAnd};
+ghost use Rattle.std.specs.Prelude.{List, ℕ};
 ghost use Rattle.byteorder.specs.Endian.{big_number};
 ghost use Rattle.tftp_wire.specs.Borrowed.{owned, owned_request};
 ghost use Rattle.tftp_wire.specs.Options.{options_in};
 ghost use Rattle.tftp_wire.specs.Parts.{packet_in, packet_of, request_of, Reads, bytes_fault};
 ghost use Rattle.tftp_wire.specs.Parts.{SplitsText, GoesOn};
-ghost use Rattle.tftp_wire.specs.Reading.{first_row, row, first_fault, request_fault, data_fault};
+ghost use Rattle.tftp_wire.specs.Reading.{first_fault, request_fault, data_fault};
 ghost use Rattle.tftp_wire.specs.Reading.{ack_fault, error_fault, oack_fault, mode_in};
 ghost use Rattle.tftp_wire.specs.Reading.{number_fault, starts_as_data};
-ghost use Rattle.tftp_wire.specs.declared.fault.PacketFaultKind.TheVariants.{Trailing};
 ghost use Rattle.tftp_wire.specs.Spelling.{Spells};
 ghost use Rattle.tftp_wire.specs.Texts.{texts};
 ghost use Rattle.tftp_wire.specs.declared.packet.Packet.{Packet};

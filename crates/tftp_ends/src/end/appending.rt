@@ -1,9 +1,8 @@
 //! The calls that append the datagram to send to `out`: each makes the step of the call that lends it.
 
-ghost use Rattle.std.specs.Prelude.{ℕ, ◌≡◌, ◌↔◌, ◌+◌, ◌++◌, ◌≤◌, List, length, Option, IfOk, OnOk};
+ghost use Rattle.std.specs.Prelude.{ℕ, ◌≡◌, ◌↔◌, ◌+◌, ◌++◌, ◌≤◌, List, length, IfOk, OnOk};
 ghost use Rattle.std.specs.Prelude.{OnErr, IsErrOf, IsSome, vec_len, vec_capacity};
-ghost use Rattle.tftp_wire.specs.declared.packet.Packet.{Packet};
-ghost use Rattle.tftp_ends.specs.Action.{Decodes, HandledBy, datagram_action, timeout_action};
+ghost use Rattle.tftp_ends.specs.Action.{HandledBy, datagram_action, timeout_action};
 ghost use Rattle.tftp_ends.specs.Action.{timeout_response};
 ghost use Rattle.tftp_ends.specs.End.{outcome_of};
 ghost use Rattle.tftp_ends.specs.Files.{AreFilesOf, KeepsFiles, AreSame};
