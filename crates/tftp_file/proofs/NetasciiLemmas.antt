@@ -1,13 +1,12 @@
 -- Bytes and their wire text in netascii. For `lines.rt`, four functions and five other files.
 use Rattle.std.proofs.Common.{◌≡◌, ◌≢◌, ℕ, ◌+◌, List, [], ◌∷◌, ◌++◌, true, false, cond, refl, ap, arith, inl, inr}
 use Rattle.std.proofs.Common.{length, take, drop, rules}
-use Rattle.std.specs.Prelude.{count_by, ltb, Option, Some, None, unwrap_or}
+use Rattle.std.specs.Prelude.{count_by}
 use Rattle.std.specs.List.{position_or_len}
 use Rattle.std.proofs.lemmas.List.{length-append}
 use Rattle.std.proofs.lemmas.List.Concat.{flat_map-append}
 use Rattle.std.proofs.Math.Numerals.{one-add}
-use Rattle.std.proofs.lemmas.Bool.{cases_lt, lt-ltb, le-ltb, cond-true, cond-false}
-use Rattle.std.proofs.lemmas.List.Sums.{prefix_len-le-length, sum_by-cons}
+use Rattle.std.proofs.lemmas.List.Sums.{sum_by-cons}
 use Rattle.tftp_file.specs.Netascii.{wire_byte, netascii_text}
 use Rattle.tftp_file.specs.Lines.{is_line_byte, EndsAtLine}
 
@@ -43,12 +42,6 @@ run_ends (x ∷ xs) = elim (byte_form x) [
   | Return e _ t ↦ rw t (inr e)
   | Itself _ _ _ t ↦ rw (t, one-add) (run_ends xs)
 ]
-
--- the index that `position` returns, or else the length
-pub first_index : (xs : List ℕ) (r : Option ℕ)
-    → r ≡ cond (ltb (position_or_len is_line_byte xs) (length xs)) (Some (position_or_len is_line_byte xs)) None
-    → unwrap_or r (length xs) ≡ position_or_len is_line_byte xs
-first_index xs r e = search (rules, cases_lt, cond-true, lt-ltb, prefix_len-le-length, cond-false, le-ltb)
 
 length-wire_byte : (x : ℕ) → length (wire_byte x) ≡ cond (is_line_byte x) 1 0 + 1
 length-wire_byte x = search rules

@@ -25,7 +25,11 @@ fn is_line_byte(byte: u8) -> bool
 pub(crate) fn line_byte_count(bytes: &[u8]) -> usize
     ensures { result ≡ count_by is_line_byte bytes.now }
 {
-    bytes.iter().filter(|byte| is_line_byte(**byte)).count()
+    let mut count = 0;
+    for byte in bytes {
+        count += usize::from(is_line_byte(*byte));
+    }
+    count
 }
 
 /// The index of the first CR or LF, or else the length.
@@ -33,8 +37,14 @@ fn run_length(text: &[u8]) -> usize
     ensures index { result ≡ position_or_len is_line_byte text.now }
     ensures within { result ≤ length text.now }
 {
-    let end = text.iter().position(|byte| is_line_byte(*byte));
-    end.unwrap_or(text.len())
+    let mut at = 0;
+    for byte in text {
+        if is_line_byte(*byte) {
+            return at;
+        }
+        at += 1;
+    }
+    at
 }
 
 /// The text before its first CR or LF, which is sent unchanged, and the rest.

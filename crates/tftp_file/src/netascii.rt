@@ -86,7 +86,7 @@ impl NetEncoder {
 }
 
 /// The state of a decoder between two pieces.
-#[derive(Clone, Copy, Debug, PartialEq, Eq)]
+#[derive(Clone, Copy, Debug)]
 enum HeldText {
     /// Nothing: the text so far ends after a whole byte or pair.
     Nothing,

@@ -133,7 +133,11 @@ fn check(path: &[u8]) -> Result<(), PathFault>
 fn slash_count(path: &[u8]) -> usize
     ensures { result ≡ count_by (λ byte. byte == 47) path.now }
 {
-    path.iter().filter(|byte| **byte == SLASH).count()
+    let mut count = 0;
+    for byte in path {
+        count += usize::from(*byte == SLASH);
+    }
+    count
 }
 
 /// Whether each part between the slashes is a segment.
@@ -158,7 +162,12 @@ fn is_segment(part: &[u8]) -> bool
 fn has_name_bytes(part: &[u8]) -> bool
     ensures { result ≡ list_all is_name_byte part.now }
 {
-    part.iter().all(|byte| is_name_byte(*byte))
+    for byte in part {
+        if !is_name_byte(*byte) {
+            return false;
+        }
+    }
+    true
 }
 
 /// Whether the byte is allowed in a segment.
