@@ -90,7 +90,6 @@ impl End {
     ghost use Rattle.tftp_ends.specs.Action.{Decodes, HandledBy, datagram_action, packet_action};
     ghost use Rattle.tftp_ends.specs.Action.{garbled_response, is_wrong_peer, timeout_response};
     ghost use Rattle.tftp_ends.specs.Fits.{ActionFits, BytesFit, ReplyFits, ResponseFits};
-    ghost use Rattle.tftp_ends.specs.Next.{IsBy};
     ghost use Rattle.tftp_ends.specs.Room.{FitsRoom, response_room};
     ghost use Rattle.tftp_ends.specs.Shortage.{AppendsNothing, LacksMemory};
     ghost use Rattle.tftp_ends.specs.Sound.{IsSound, ResendsAck, longest_sent};

@@ -4,7 +4,7 @@ ghost use Rattle.std.specs.Prelude.{◌≡◌, if◌then◌else◌};
 ghost use Rattle.tftp_ends.specs.End.{terms_of, number_of, is_complete, outcome_of, is_progress};
 ghost use Rattle.tftp_ends.specs.End.{step_of};
 ghost use Rattle.tftp_ends.specs.Next.{HasNext, numbered};
-ghost use Rattle.tftp_ends.specs.Phase.{refused, completed, waited};
+ghost use Rattle.tftp_ends.specs.Phase.{waited};
 
 use crate::endpoint::Endpoint;
 use crate::outcome::Outcome;
@@ -174,30 +174,6 @@ impl Phase {
             Phase::Waiting { .. } => unreachable!(),
             Phase::Dallying { .. } => unreachable!(),
             Phase::Closed { .. } => unreachable!(),
-        }
-    }
-
-    /// Closed, with these terms.
-    pub(crate) fn refused(self, terms: Option<Terms>, outcome: Outcome) -> Phase
-        ensures { result ≡ refused terms outcome self }
-    {
-        Phase::Closed {
-            terms,
-            number: self.number(),
-            complete: self.is_complete(),
-            outcome,
-        }
-    }
-
-    /// Closed as complete, when the last block is acknowledged.
-    pub(crate) fn completed(self) -> Phase
-        ensures { result ≡ completed self }
-    {
-        Phase::Closed {
-            terms: self.terms(),
-            number: self.number(),
-            complete: true,
-            outcome: Outcome::Complete,
         }
     }
 

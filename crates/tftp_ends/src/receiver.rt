@@ -6,7 +6,7 @@ ghost use Rattle.tftp_ends.specs.End.{is_client};
 ghost use Rattle.tftp_ends.specs.Fits.{FitsReceiver, IsReceivers};
 ghost use Rattle.tftp_ends.specs.Next.{IsBy};
 ghost use Rattle.tftp_ends.specs.Text.{is_readable};
-ghost use Rattle.tftp_ends.specs.Receiver.{next_action, data_action, receiver_action};
+ghost use Rattle.tftp_ends.specs.Receiver.{data_action, receiver_action};
 ghost use Rattle.tftp_ends.specs.Receiver.{dally_response};
 
 use crate::action::{Action, Response};
@@ -37,35 +37,8 @@ fn is_readable(mode: Mode, decoder: NetDecoder, piece: &[u8], size: u16) -> bool
     }
 }
 
-/// The next block is stored, if it is a block of this transfer.
-#[inline(always)]
-fn next_action(mode: Mode, decoder: NetDecoder, terms: Terms, number: u16, bytes: &[u8]) -> Action
-    ensures action { result ≡ next_action mode decoder terms number bytes.now }
-    ensures fits { FitsReceiver result }
-    ensures agreed { IsBy terms result }
-{
-    let size = usize::from(terms.size);
-    if bytes.len() > size {
-        return illegal_action(terms);
-    }
-    if number == u16::MAX && bytes.len() == size {
-        return Action::Respond(Response::Refuse {
-            terms: Some(terms),
-            reply: ErrorReply::FileTooLarge,
-            outcome: Outcome::TooLarge,
-        });
-    }
-    if !is_readable(mode, decoder, bytes, terms.size) {
-        return Action::Respond(Response::Refuse {
-            terms: Some(terms),
-            reply: ErrorReply::NotNetascii,
-            outcome: Outcome::NotNetascii,
-        });
-    }
-    Action::Store { terms, number }
-}
-
-/// The newest block is acknowledged again, an older one is ignored, and none may be skipped.
+/// The newest block is acknowledged again, an older one is ignored, and none may be skipped. The next
+/// block is stored, if it is a block of this transfer.
 #[inline(always)]
 pub(crate) fn data_action(
     mode: Mode,
@@ -85,10 +58,25 @@ pub(crate) fn data_action(
     if number < stored {
         return Action::Respond(Response::Ignore);
     }
-    if number - stored > 1 {
+    let size = usize::from(terms.size);
+    if number - stored > 1 || bytes.len() > size {
         return illegal_action(terms);
     }
-    next_action(mode, decoder, terms, number, bytes)
+    if number == u16::MAX && bytes.len() == size {
+        return Action::Respond(Response::Refuse {
+            terms: Some(terms),
+            reply: ErrorReply::FileTooLarge,
+            outcome: Outcome::TooLarge,
+        });
+    }
+    if !is_readable(mode, decoder, bytes, terms.size) {
+        return Action::Respond(Response::Refuse {
+            terms: Some(terms),
+            reply: ErrorReply::NotNetascii,
+            outcome: Outcome::NotNetascii,
+        });
+    }
+    Action::Store { terms, number }
 }
 
 /// How a receiver that has stored `stored` blocks handles a packet.

@@ -5,8 +5,7 @@ ghost use Rattle.tftp_wire.specs.Borrowed.{owned};
 ghost use Rattle.tftp_negotiate.specs.Asked.{IsAskable};
 ghost use Rattle.tftp_ends.specs.Fits.{FitsSender, FitsReceiver};
 ghost use Rattle.tftp_ends.specs.Waiting.{default_terms, agreed_terms, no_answer, refusal_action};
-ghost use Rattle.tftp_ends.specs.Waiting.{accept_action, begin_action, begin_with_action};
-ghost use Rattle.tftp_ends.specs.Waiting.{reader_action, writer_action};
+ghost use Rattle.tftp_ends.specs.Waiting.{begin_action, reader_action, writer_action};
 
 use crate::action::{Action, Response};
 use crate::endpoint::Endpoint;
@@ -78,18 +77,6 @@ fn refusal_action(refusal: Refusal) -> Action
     })
 }
 
-fn accept_action(from: Endpoint, answer: Result<Agreed, Refusal>) -> Action
-    ensures action { result ≡ accept_action from answer }
-    ensures fits { FitsReceiver result }
-{
-    match answer {
-        Ok(agreed) => Action::Respond(Response::Accept {
-            terms: agreed_terms(from, &agreed),
-        }),
-        Err(refusal) => refusal_action(refusal),
-    }
-}
-
 /// A client that writes sends DATA 1, if the file's blocks can be numbered.
 fn begin_action(length: u64, terms: Terms) -> Action
     requires { 0 < terms.size }
@@ -104,16 +91,6 @@ fn begin_action(length: u64, terms: Terms) -> Action
             reply: ErrorReply::FileTooLarge,
             outcome: Outcome::TooLarge,
         })
-    }
-}
-
-fn begin_with_action(from: Endpoint, length: u64, answer: Result<Agreed, Refusal>) -> Action
-    ensures action { result ≡ begin_with_action from length answer }
-    ensures fits { FitsSender length result }
-{
-    match answer {
-        Ok(agreed) => begin_action(length, agreed_terms(from, &agreed)),
-        Err(refusal) => refusal_action(refusal),
     }
 }
 
@@ -142,10 +119,14 @@ pub(crate) fn reader_action(
                 decoded,
             )
         }
-        Some(PacketRef::Oack(options)) => accept_action(
-            from,
-            check_oack_ref(asked, Kind::Read, mode, options, limit),
-        ),
+        Some(PacketRef::Oack(options)) => {
+            match check_oack_ref(asked, Kind::Read, mode, options, limit) {
+                Ok(agreed) => Action::Respond(Response::Accept {
+                    terms: agreed_terms(from, &agreed),
+                }),
+                Err(refusal) => refusal_action(refusal),
+            }
+        }
         Some(PacketRef::Error { code, .. }) => peer_error(*code),
         _ => no_answer(),
     }
@@ -167,11 +148,12 @@ pub(crate) fn writer_action(
 {
     match decoded {
         Some(PacketRef::Ack { block: 0 }) => begin_action(length, default_terms(from)),
-        Some(PacketRef::Oack(options)) => begin_with_action(
-            from,
-            length,
-            check_oack_ref(asked, Kind::Write, mode, options, limit),
-        ),
+        Some(PacketRef::Oack(options)) => {
+            match check_oack_ref(asked, Kind::Write, mode, options, limit) {
+                Ok(agreed) => begin_action(length, agreed_terms(from, &agreed)),
+                Err(refusal) => refusal_action(refusal),
+            }
+        }
         Some(PacketRef::Error { code, .. }) => peer_error(*code),
         _ => no_answer(),
     }

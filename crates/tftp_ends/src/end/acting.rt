@@ -53,7 +53,13 @@ impl End {
         ensures { self.new ≡ with_position (in_phase
             (refused terms outcome self.old.position.phase) self.old) self.old }
     {
-        self.go_into(self.phase.refused(terms, outcome));
+        let phase = Phase::Closed {
+            terms,
+            number: self.phase.number(),
+            complete: self.phase.is_complete(),
+            outcome,
+        };
+        self.go_into(phase);
     }
 
     /// Closes because of a fault of the file, with an ERROR for `from`.
@@ -180,7 +186,13 @@ impl End {
                 (Some(from), outgoing)
             }
             Response::Complete => {
-                self.go_into(self.phase.completed());
+                let phase = Phase::Closed {
+                    terms: self.phase.terms(),
+                    number: self.phase.number(),
+                    complete: true,
+                    outcome: Outcome::Complete,
+                };
+                self.go_into(phase);
                 (None, Outgoing::Nothing)
             }
         }

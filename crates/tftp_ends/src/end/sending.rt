@@ -198,7 +198,7 @@ impl End {
                     self.retries_left,
                 );
                 self.phase.set_number(number);
-                Ok((next.sent(from), Outgoing::LastSent))
+                Ok((before.step_to(phase, Some(from)), Outgoing::LastSent))
             }
             BlockRead::Changed => {
                 let step = self.close_of(Outcome::SourceFault, from);

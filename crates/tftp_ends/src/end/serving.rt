@@ -29,12 +29,7 @@ use tftp_negotiate::{Agreed, DEFAULT_BLOCK, laws};
 use tftp_wire::{HEADER, MAX_REQUEST, Mode, append_oack_header};
 
 /// ACK 0.
-fn first_ack(alloc: Global) -> Result<Vec<u8>, AllocError>
-    ensures ok { IfOk result (λ v. v.items ≡ ack_bytes 0) }
-    ensures room { IfOk result (λ v. HEADER ≤ vec_capacity v) }
-{
-    Vec::from_slice(alloc, b"\x00\x04\x00\x00")
-}
+const ACK_ZERO: [u8; HEADER] = [0, 4, 0, 0];
 
 /// The OACK of the agreed options.
 fn oack(alloc: Global, agreed: &Agreed) -> Result<Vec<u8>, AllocError>
@@ -126,25 +121,19 @@ impl End {
         ensures same { S.is_same source.old source.new }
         ensures side { IfOk result (λ opened. is_sender opened.0.role.side ≡ true) }
     {
-        let ReadService {
-            peer,
-            mode,
-            length,
-            retries,
-        } = read;
-        if !can_be_numbered(length, agreed.block_size()) {
+        if !can_be_numbered(read.length, agreed.block_size()) {
             return Err(OpenFault::TooLarge);
         }
         let role = Role {
             side: Side::ServerRead,
-            mode,
-            length,
-            retries,
+            mode: read.mode,
+            length: read.length,
+            retries: read.retries,
         };
         if agreed.is_empty() {
-            return End::send_first(alloc, source, peer, role, out);
+            return End::send_first(alloc, source, read.peer, role, out);
         }
-        End::send_oack(alloc, peer, agreed, role, out)
+        End::send_oack(alloc, read.peer, agreed, role, out)
     }
 
     /// Opens a server's end that sends, by DATA 1.
@@ -244,7 +233,7 @@ impl End {
             × (out.new.items ≡ out.old.items)) }
     {
         if agreed.is_empty() {
-            let ack = first_ack(alloc)?;
+            let ack = Vec::from_slice(alloc, &ACK_ZERO)?;
             return End::receive(alloc, default_terms(peer), mode, retries, ack, out);
         }
         let oack = oack(alloc, agreed)?;

@@ -3,7 +3,7 @@
 ghost use Rattle.std.specs.Prelude.{◌≡◌, ◌≤◌, ◌++◌, [], true, false, nat_lt, length, OnErr};
 ghost use Rattle.std.specs.Prelude.{IfOk, IfErr, Some, Err, ◌+◌, ◌<◌, vec_capacity};
 ghost use Rattle.tftp_file.specs.Decoding.{DecodesPiece};
-ghost use Rattle.tftp_ends.specs.BlockStored.{StoresBlock, StoresPiece, StoresLast, is_last};
+ghost use Rattle.tftp_ends.specs.BlockStored.{StoresBlock, StoresPiece, is_last};
 ghost use Rattle.tftp_ends.specs.Files.{KeepsSink};
 ghost use Rattle.tftp_ends.specs.Shortage.{StoreLacksMemory};
 ghost use Rattle.tftp_ends.specs.Text.{begins_netascii, is_readable};
@@ -83,16 +83,6 @@ fn commit_reply(fault: StoreFault) -> ErrorReply
     }
 }
 
-fn commit<K: Sink>(sink: &mut K) -> BlockStored
-    ensures takes { StoresLast K.meaning sink.old sink.new result }
-    ensures same { K.is_same sink.old sink.new }
-{
-    match sink.commit() {
-        Ok(()) => BlockStored::All,
-        Err(fault) => BlockStored::Uncommitted(commit_reply(fault)),
-    }
-}
-
 /// Appends a block's bytes to the sink, and commits the file after the last block.
 #[inline(always)]
 fn store_block<K: Sink>(
@@ -110,7 +100,10 @@ fn store_block<K: Sink>(
     match append_block(sink, piece) {
         Ok(()) => match kind {
             BlockKind::Full => Ok(BlockStored::More),
-            BlockKind::Last => Ok(commit(sink)),
+            BlockKind::Last => match sink.commit() {
+                Ok(()) => Ok(BlockStored::All),
+                Err(fault) => Ok(BlockStored::Uncommitted(commit_reply(fault))),
+            },
         },
         Err(StoreFault::Memory) => Err(AllocError),
         Err(StoreFault::Missing | StoreFault::Exists | StoreFault::Full | StoreFault::Io) => {
