@@ -68,8 +68,10 @@ pub(crate) fn read_request(
 {
     let mut bytes = Vec::with_capacity(alloc, request_len(name, mode, asked))?;
     append_read(&mut bytes, name, mode)?;
-    append_options(&mut bytes, asked.options(mode).as_slice())?;
-    Ok(bytes)
+    match append_options(&mut bytes, asked.options(mode).as_slice()) {
+        Ok(()) => Ok(bytes),
+        Err(fault) => Err(fault),
+    }
 }
 
 /// The bytes of a write request, in one allocation that has room for `longest` bytes.
@@ -87,6 +89,8 @@ pub(crate) fn write_request(
     let room = request_len(name, mode, asked).max(longest);
     let mut bytes = Vec::with_capacity(alloc, room)?;
     append_write(&mut bytes, name, mode)?;
-    append_options(&mut bytes, asked.options(mode).as_slice())?;
-    Ok(bytes)
+    match append_options(&mut bytes, asked.options(mode).as_slice()) {
+        Ok(()) => Ok(bytes),
+        Err(fault) => Err(fault),
+    }
 }

@@ -3,8 +3,7 @@
 ghost use Rattle.std.specs.Prelude.{◌≡◌, IfOk};
 ghost use Rattle.tftp_wire.specs.Borrowed.{owned_option};
 ghost use Rattle.tftp_negotiate.specs.Agreed.{IsAgreement};
-ghost use Rattle.tftp_negotiate.specs.Answer.{answer, answered_option, answered_blksize};
-ghost use Rattle.tftp_negotiate.specs.Answer.{answered_timeout, answered_tsize};
+ghost use Rattle.tftp_negotiate.specs.Answer.{answer, answered_option, answered_tsize};
 ghost use Rattle.tftp_negotiate.specs.Ranges.{IsBlockSize};
 
 use crate::agreed::Agreed;
@@ -86,31 +85,15 @@ pub(crate) fn answered(
         return Ok(None);
     };
     match name {
-        Name::Blksize => Ok(answered_blksize(number, limits.max_block)),
-        Name::Timeout => Ok(answered_timeout(number)),
+        // The requested block size, but at most the server's maximum (RFC 2348).
+        Name::Blksize if is_block_size(number) => {
+            Ok(Some(Known::Blksize(limits.max_block.min(number as u16))))
+        }
+        Name::Blksize => Ok(None),
+        // The requested seconds (RFC 2349).
+        Name::Timeout if is_timeout(number) => Ok(Some(Known::Timeout(number as u8))),
+        Name::Timeout => Ok(None),
         Name::Tsize => answered_tsize(mode, kind, length, limits.max_file, number),
-    }
-}
-
-/// The requested block size, but at most the server's maximum (RFC 2348).
-fn answered_blksize(asked: u64, max_block: u16) -> Option<Known>
-    ensures { result ≡ answered_blksize asked max_block }
-{
-    if is_block_size(asked) {
-        Some(Known::Blksize(max_block.min(asked as u16)))
-    } else {
-        None
-    }
-}
-
-/// The requested seconds (RFC 2349).
-fn answered_timeout(asked: u64) -> Option<Known>
-    ensures { result ≡ answered_timeout asked }
-{
-    if is_timeout(asked) {
-        Some(Known::Timeout(asked as u8))
-    } else {
-        None
     }
 }
 

@@ -103,7 +103,7 @@ fn append_request(out: &mut Vec<u8>, opcode: u16, name: &[u8], mode: Mode) -> Re
     let word = mode.word().as_bytes();
     // The opcode has two bytes, and a zero byte ends each of the two texts.
     out.reserve(name.len() + word.len() + 4)?;
-    put_number(out, opcode);
+    append_reserved(out, &opcode.to_be_bytes());
     put_text(out, name);
     put_text(out, word);
     Ok(())
@@ -141,17 +141,6 @@ fn header(opcode: u16, number: u16) -> [u8; 4]
     BigEndian::write_u16(&mut bytes, opcode);
     BigEndian::write_u16(&mut bytes[2..], number);
     bytes
-}
-
-fn put_number(out: &mut Vec<u8>, number: u16)
-    requires { vec_len out.old + 2 ≤ vec_capacity out.old }
-    ensures items { out.new.items ≡ out.old.items ++ big_bytes 2 number }
-    ensures capacity { vec_capacity out.old ≤ vec_capacity out.new }
-    ensures len { vec_len out.new ≡ vec_len out.old + 2 }
-{
-    let mut bytes = [0; 2];
-    BigEndian::write_u16(&mut bytes, number);
-    append_reserved(out, &bytes);
 }
 
 // Inlined, the loop of each copy would be of some 300 bytes.

@@ -30,13 +30,15 @@ pub fn show_datagram(bytes: &[u8], out: &mut String) -> Result<bool, PacketFault
             // Bytes that spell a packet have no fault, and `packet_in` computes that packet.
             laws::fault_or_packet();
             laws::spelled_is_found();
-            show_ref(&packet, out)?;
-            Ok(true)
+            match show_ref(&packet, out) {
+                Ok(()) => Ok(true),
+                Err(fault) => Err(fault),
+            }
         }
-        Err(fault) => {
-            show_fault(fault.kind, fault.at, out)?;
-            Ok(false)
-        }
+        Err(fault) => match show_fault(fault.kind, fault.at, out) {
+            Ok(()) => Ok(false),
+            Err(fault) => Err(fault),
+        },
     }
 }
 

@@ -46,7 +46,10 @@ fn read_packet(bytes: &[u8]) -> Result<PacketRef<'_>, PacketFault>
     match BigEndian::read_u16(bytes) {
         READ => Ok(PacketRef::Read(read_request(bytes)?)),
         WRITE => Ok(PacketRef::Write(read_request(bytes)?)),
-        DATA => read_data(bytes),
+        DATA => {
+            let (block, bytes) = read_block(bytes)?;
+            Ok(PacketRef::Data { block, bytes })
+        }
         ACK => read_ack(bytes),
         ERROR => read_error(bytes),
         OACK => read_oack(bytes),
@@ -79,14 +82,6 @@ fn read_request(bytes: &[u8]) -> Result<RequestRef<'_>, PacketFault>
         mode,
         options,
     })
-}
-
-fn read_data(bytes: &[u8]) -> Result<PacketRef<'_>, PacketFault>
-    requires { 2 ≤ length bytes.now }
-    ensures { Reads owned (packet_of 3 bytes.now) (data_fault bytes.now) result }
-{
-    let (block, bytes) = read_block(bytes)?;
-    Ok(PacketRef::Data { block, bytes })
 }
 
 /// The block number and the bytes of a datagram with the opcode of DATA.

@@ -135,8 +135,10 @@ impl End {
             × (out.new.items ≡ out.old.items)) }
     {
         let end = End::open_get(alloc, to, name, mode, asked, config)?;
-        out.extend_from_slice(end.bytes_of(Outgoing::LastSent))?;
-        Ok((end, opening_step(to)))
+        match out.extend_from_slice(end.bytes_of(Outgoing::LastSent)) {
+            Ok(()) => Ok((end, opening_step(to))),
+            Err(_) => Err(OpenFault::Memory),
+        }
     }
 
     /// Opens a client that writes a file of `length` bytes of wire text, and lends its request, for
@@ -220,7 +222,9 @@ impl End {
         ensures err { OnErr result (out.new.items ≡ out.old.items) }
     {
         let end = End::open_put(alloc, to, name, mode, asked, length, config)?;
-        out.extend_from_slice(end.bytes_of(Outgoing::LastSent))?;
-        Ok((end, opening_step(to)))
+        match out.extend_from_slice(end.bytes_of(Outgoing::LastSent)) {
+            Ok(()) => Ok((end, opening_step(to))),
+            Err(_) => Err(OpenFault::Memory),
+        }
     }
 }

@@ -2,5 +2,5 @@
 use Rattle.std.proofs.Common.{rules}
 use Rattle.tftp_wire.proofs.datagram.show_datagram.Goals as goal
 
-pub returns-in_ok-show_ref-in-Ok-clause-appended : goal.returns-in_ok-show_ref-in-Ok-clause-appended
-returns-in_ok-show_ref-in-Ok-clause-appended c = search rules
+pub returns-in-Ok-show_ref-clause-appended : goal.returns-in-Ok-show_ref-clause-appended
+returns-in-Ok-show_ref-clause-appended c = search rules
