@@ -2,6 +2,7 @@
 
 ghost use Rattle.std.specs.Prelude.{◌≡◌, ◌≤◌, ◌<◌, ◌+◌, ◌*◌, false, None, length, take, drop};
 ghost use Rattle.std.specs.Prelude.{vec_len, vec_capacity, option_map, Ok, IfOk, IfErr, OnErr};
+ghost use Rattle.std.specs.Prelude.{is_ok, ◌||◌};
 ghost use Rattle.std.specs.Io.KnownBytes.{Consumes, IsAtEnd};
 ghost use Rattle.tftp_file.specs.Netascii.{wire_text};
 ghost use Rattle.tftp_file.specs.Encoding.{netascii_left, encoding_of};
@@ -11,7 +12,7 @@ ghost use Rattle.tftp_file.specs.Stream.{sink_writer, sink_committed, Gives, Wri
 
 use crate::encoding::{Encoded, Encoding, encode};
 use crate::{FileFault, Sink, Source, StoreFault};
-use std::io::{Read, Write};
+use std::io::{self, Read, Write};
 use tftp_wire::Mode;
 
 /// The maximum number of host bytes that one read requests in netascii.
@@ -288,6 +289,21 @@ fn write_pieces<W: Write>(writer: &mut W, bytes: &[u8]) -> Result<(), StoreFault
     Ok(())
 }
 
+/// Commits the bytes written exactly if the flush succeeded.
+fn commit_flushed(flushed: io::Result<()>, is_committed: &mut bool) -> Result<(), StoreFault>
+    ensures answer { is_ok result ≡ is_ok flushed }
+    ensures committed { is_committed.new ≡ (is_committed.old || is_ok flushed) }
+    ensures fault { IfErr result (λ fault. fault ≡ StoreFault.Io) }
+{
+    match flushed {
+        Ok(()) => {
+            *is_committed = true;
+            Ok(())
+        }
+        Err(_) => Err(StoreFault::Io),
+    }
+}
+
 impl<W: Write> Sink for WriteSink<W> {
     ghost use Rattle.std.specs.Prelude.{◌≡◌, ⊤};
     ghost use Rattle.tftp_file.specs.declared.fault.StoreFault.TheVariants.{Io};
@@ -317,12 +333,7 @@ impl<W: Write> Sink for WriteSink<W> {
     }
 
     fn commit(&mut self) -> Result<(), StoreFault> {
-        match self.writer.flush() {
-            Ok(()) => {
-                self.is_committed = true;
-                Ok(())
-            }
-            Err(_) => Err(StoreFault::Io),
-        }
+        let flushed = self.writer.flush();
+        commit_flushed(flushed, &mut self.is_committed)
     }
 }
