@@ -9,7 +9,7 @@ mod sides;
 mod storing;
 
 ghost use Rattle.std.specs.Prelude.{◌≡◌, ◌↔◌, ◌≤◌, length, option_map, Option};
-ghost use Rattle.std.specs.Prelude.{Some, true, IfOk, IfSome, OnErr, IsErrOf, IsSome, is_some};
+ghost use Rattle.std.specs.Prelude.{Some, false, true, IfOk, IfSome, OnErr, IsErrOf, IsSome, is_some};
 ghost use Rattle.tftp_wire.specs.Borrowed.{owned};
 ghost use Rattle.tftp_wire.specs.declared.packet.Packet.{Packet};
 ghost use Rattle.tftp_ends.specs.declared.action.Action.TheVariants.{Send, Store};
@@ -183,8 +183,10 @@ impl End {
     }
 
     /// How the end handles a packet from its peer, or from the server while the peer is unknown.
+    /// `sends` is whether it is a sender: as a constant, it keeps the other side's code out.
     #[inline(always)]
-    fn packet_action(&self, from: Endpoint, decoded: &Option<PacketRef<'_>>) -> Action
+    fn packet_action(&self, sends: bool, from: Endpoint, decoded: &Option<PacketRef<'_>>) -> Action
+        requires { is_sender self.now.role.side ≡ sends }
         ensures action { result
             ≡ packet_action self.now from (option_map owned decoded.now) self.now.position.phase }
         ensures fits { ActionFits self.now result }
@@ -193,13 +195,16 @@ impl End {
         let role = self.role;
         match self.phase {
             Phase::Waiting { asked, limit } => {
-                if role.side.is_sender() {
+                if sends {
                     writer_action(role.mode, &asked, limit, role.length, from, decoded)
                 } else {
                     reader_action(role.mode, &asked, limit, from, decoded)
                 }
             }
             Phase::Sending { terms, number } => {
+                if !sends {
+                    unreachable!()
+                }
                 sender_action(role.side, role.length, terms, number, decoded)
             }
             Phase::Receiving { terms, number } => receiver_action(
@@ -216,8 +221,9 @@ impl End {
     }
 
     /// How the end handles a datagram: it tests the sender first, and then for a malformed ERROR.
-    #[inline(never)]
-    pub(crate) fn datagram_action(&self, from: Endpoint, bytes: &[u8]) -> Action
+    #[inline(always)]
+    fn datagram_action(&self, sends: bool, from: Endpoint, bytes: &[u8]) -> Action
+        requires { is_sender self.now.role.side ≡ sends }
         ensures action { (decoded : Option Packet) × Decodes bytes.now decoded
             × (result ≡ datagram_action self.now from bytes.now decoded) }
         ensures fits { ActionFits self.now result }
@@ -235,7 +241,31 @@ impl End {
         if is_error && decoded.is_none() {
             return Action::Respond(self.garbled_response());
         }
-        self.packet_action(from, &decoded)
+        self.packet_action(sends, from, &decoded)
+    }
+
+    /// How a receiver handles any datagram.
+    #[inline(never)]
+    pub(crate) fn action_as_receiver(&self, from: Endpoint, bytes: &[u8]) -> Action
+        requires { is_sender self.now.role.side ≡ false }
+        ensures action { (decoded : Option Packet) × Decodes bytes.now decoded
+            × (result ≡ datagram_action self.now from bytes.now decoded) }
+        ensures fits { ActionFits self.now result }
+        ensures bytes { BytesFit self.now bytes.now result }
+    {
+        self.datagram_action(false, from, bytes)
+    }
+
+    /// How a sender handles any datagram.
+    #[inline(never)]
+    pub(crate) fn action_as_sender(&self, from: Endpoint, bytes: &[u8]) -> Action
+        requires { is_sender self.now.role.side ≡ true }
+        ensures action { (decoded : Option Packet) × Decodes bytes.now decoded
+            × (result ≡ datagram_action self.now from bytes.now decoded) }
+        ensures fits { ActionFits self.now result }
+        ensures bytes { BytesFit self.now bytes.now result }
+    {
+        self.datagram_action(true, from, bytes)
     }
 
     /// The block that a receiver stores next, if the datagram is its DATA from the peer, as most are.

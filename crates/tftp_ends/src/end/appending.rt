@@ -1,8 +1,9 @@
 //! The calls that append the datagram to send to `out`: each makes the step of the call that lends it.
 
-ghost use Rattle.std.specs.Prelude.{ℕ, ◌≡◌, ◌↔◌, ◌+◌, ◌++◌, ◌≤◌, List, length, IfOk, OnOk};
+ghost use Rattle.std.specs.Prelude.{ℕ, ◌≡◌, ◌↔◌, ◌+◌, ◌++◌, ◌≤◌, List, length, Option, IfOk, OnOk};
 ghost use Rattle.std.specs.Prelude.{OnErr, IsErrOf, IsSome, vec_len, vec_capacity};
-ghost use Rattle.tftp_ends.specs.Action.{HandledBy, datagram_action, timeout_action};
+ghost use Rattle.tftp_wire.specs.declared.packet.Packet.{Packet};
+ghost use Rattle.tftp_ends.specs.Action.{Decodes, HandledBy, datagram_action, timeout_action};
 ghost use Rattle.tftp_ends.specs.Action.{timeout_response};
 ghost use Rattle.tftp_ends.specs.End.{outcome_of};
 ghost use Rattle.tftp_ends.specs.Files.{AreFilesOf, KeepsFiles, AreSame};
@@ -89,6 +90,18 @@ impl End {
         Ok(step)
     }
 
+    /// How the end handles any datagram, whichever its role.
+    fn any_action(&self, from: Endpoint, bytes: &[u8]) -> Action
+        ensures { (decoded : Option Packet) × Decodes bytes.now decoded
+            × (result ≡ datagram_action self.now from bytes.now decoded) }
+    {
+        if self.role.side.is_sender() {
+            self.action_as_sender(from, bytes)
+        } else {
+            self.action_as_receiver(from, bytes)
+        }
+    }
+
     /// Reserves capacity in `out` for the answer to a datagram, so that it can be appended after the
     /// step. `Closed` if the end is closed, and `Memory` only if there is a datagram to send.
     pub fn reserve_answer(
@@ -115,7 +128,7 @@ impl End {
         // Whichever packet the bytes are said to spell, they are handled by one action.
         laws::one_meaning();
         laws::fault_or_packet();
-        Ok(out.reserve(self.room(self.datagram_action(from, bytes)))?)
+        Ok(out.reserve(self.room(self.any_action(from, bytes)))?)
     }
 
     /// Appends the datagram to send, in reserved capacity.

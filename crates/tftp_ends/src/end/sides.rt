@@ -128,7 +128,7 @@ impl End {
         if self.is_closed() {
             return Err(EndFault::Closed);
         }
-        match self.datagram_action(from, bytes) {
+        match self.action_as_sender(from, bytes) {
             Action::Respond(response) => Ok(self.respond(response, from)),
             Action::Send { terms, number } => self.send(self.phase, terms, number, source, from),
             Action::Store { .. } => unreachable!(),
@@ -244,7 +244,7 @@ impl End {
         if self.is_closed() {
             return Err(EndFault::Closed);
         }
-        match self.datagram_action(from, bytes) {
+        match self.action_as_receiver(from, bytes) {
             Action::Respond(response) => Ok(self.respond(response, from)),
             Action::Send { .. } => unreachable!(),
             Action::Store { terms, number } => {

@@ -8,7 +8,7 @@ pub returns-clause-room : goal.returns-clause-room
 returns-clause-room c = λ datagram fits.
     let enough =
     room_is_enough c.args.self.now c.args.from c.args.bytes.now c.one_meaning.ensures c.fault_or_packet.ensures.spelled
-    c.datagram_action.result c.datagram_action.ensures.action datagram fits in
+    c.any_action.result c.any_action.ensures datagram fits in
     omega (arith, enough, c.room.ensures, c.in_ok-reserve.ensures.ok)
 
 pub returns-in_err-reserve-clause-memory : goal.returns-in_err-reserve-clause-memory
