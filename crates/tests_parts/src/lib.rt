@@ -16,8 +16,6 @@ mod backoff_rows;
 #[cfg(test)]
 mod calls;
 #[cfg(test)]
-mod cut_rows;
-#[cfg(test)]
 mod end_rows;
 #[cfg(test)]
 mod expect;
@@ -27,8 +25,6 @@ mod fault_end_rows;
 mod fault_rows;
 #[cfg(test)]
 mod lending_rows;
-#[cfg(test)]
-mod long_end_rows;
 #[cfg(test)]
 mod memory_rows;
 #[cfg(test)]

@@ -266,7 +266,7 @@ fn put(
 }
 
 /// The options agreed for a request, with a file of this length.
-pub(crate) fn agreed_of(rt: &impl Abort, request: &[u8], length: u64) -> Agreed {
+fn agreed_of(rt: &impl Abort, request: &[u8], length: u64) -> Agreed {
     let Some(PacketRef::Read(asks)) = decode_packet(request) else {
         panic!(rt; "a request to read");
     };
@@ -277,7 +277,7 @@ pub(crate) fn agreed_of(rt: &impl Abort, request: &[u8], length: u64) -> Agreed 
 }
 
 /// A server's end that sends.
-pub(crate) fn serve_read(
+fn serve_read(
     rt: &impl Abort,
     alloc: Global,
     mode: Mode,
@@ -320,13 +320,7 @@ fn serve_write(
 }
 
 /// A source of these bytes of the file.
-pub(crate) fn source_of(
-    rt: &impl Abort,
-    alloc: Global,
-    file: &[u8],
-    mode: Mode,
-    gives: Gives,
-) -> FaultSource {
+fn source_of(rt: &impl Abort, alloc: Global, file: &[u8], mode: Mode, gives: Gives) -> FaultSource {
     FaultSource::new(alloc, file, mode, gives.bytes, gives.then_fails).expect(rt, "memory")
 }
 
