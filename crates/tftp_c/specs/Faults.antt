@@ -58,11 +58,11 @@ abbrev pub FailsWith : List ℕ → (TftpOptions → Type 0) → ℕ → Type 0
 FailsWith given fails returned =
     SizeRefused given returned ⊎ (HasSize given × fails (options_in given))
 
--- an end that has opened does not fit its place: memory is lacking for the handle (3), or a buffer of
--- this length has no room for the first datagram (12)
+-- a buffer of this length has no room for the first datagram of an end that has opened (12)
 abbrev pub FirstTooLong : EndState → ℕ → ℕ → Type 0
 FirstTooLong e room returned = (returned ≡ 12) × (room < length e.position.last_sent)
 
+-- an end that has opened is not handed out: memory is lacking for its handle (3), or for its first datagram the room
 abbrev pub HandleRefused : EndState → ℕ → ℕ → Type 0
 HandleRefused e room returned = (returned ≡ 3) ⊎ FirstTooLong e room returned
 
