@@ -1,6 +1,6 @@
 //! The blocks of pcapng: sections, interfaces and packets. Other blocks are passed over.
 
-ghost use Rattle.std.specs.Prelude.{◌≡◌, ◌+◌, ◌≤◌, IfErr, IfSome, OnOk, length, vec_len};
+ghost use Rattle.std.specs.Prelude.{◌≡◌, ◌+◌, ◌≤◌, IfErr, IfSome, OnOk, vec_len};
 ghost use Rattle.tftp_capture.specs.declared.fault.CaptureFault.TheVariants as capture_faults;
 ghost use Rattle.tftp_capture.specs.declared.block.TheConstants.{CLOSING};
 ghost use Rattle.tftp_capture.specs.Record.{StaysWithin};
@@ -8,7 +8,6 @@ ghost use Rattle.tftp_capture.specs.Record.{StaysWithin};
 use crate::capture::{MAX_RECORD, Stamp};
 use crate::fault::CaptureFault;
 use crate::input::{begins, fill, skip, take_bytes};
-use crate::number::after;
 use crate::order::Order;
 use crate::section::Section;
 use std::alloc::Global;
@@ -54,31 +53,29 @@ impl Blocks {
     ) -> Result<Blocks, CaptureFault> {
         let mut size = [0; 4];
         match fill(input, &mut size) {
-            Ok(()) => Blocks::begin(alloc, &size, input),
+            Ok(()) => Blocks::begin(alloc, u32::from_be_bytes(size), input),
             Err(fault) => Err(fault),
         }
     }
 
-    /// Reads the byte order of a section, whose block has this length.
+    /// Reads the byte order of a section, whose block has this length if its highest byte is first.
     fn begin<R: Read>(
         alloc: Global,
-        size: &[u8],
+        size: u32,
         input: &mut BufReader<R>,
-    ) -> Result<Blocks, CaptureFault>
-        requires { 4 ≤ length size.now }
-    {
+    ) -> Result<Blocks, CaptureFault> {
         let mut magic = [0; 4];
         match fill(input, &mut magic) {
             Ok(()) => {}
             Err(fault) => return Err(fault),
         }
-        let order = match u32::from_be_bytes(magic) {
-            0x1a2b_3c4d => Order::Big,
-            0x4d3c_2b1a => Order::Little,
+        let (order, length) = match u32::from_be_bytes(magic) {
+            0x1a2b_3c4d => (Order::Big, size),
+            0x4d3c_2b1a => (Order::Little, size.swap_bytes()),
             _ => return Err(CaptureFault::Format),
         };
         // type, length and byte order are read
-        match left_of(order.number(size, 0), 12) {
+        match left_of(length, 12) {
             Some(left) => Ok(Blocks {
                 alloc,
                 section: Section::new(alloc, order),
@@ -119,7 +116,7 @@ impl Blocks {
         let order = self.section.order;
         let kind = order.number(&header, 0);
         if kind == SECTION {
-            return self.read_section(input, after(&header, 4));
+            return self.read_section(input, Order::Big.number(&header, 4));
         }
         self.left = match left_of(order.number(&header, 4), 8) {
             Some(left) => left,
@@ -137,10 +134,8 @@ impl Blocks {
     fn read_section<R: Read>(
         &mut self,
         input: &mut BufReader<R>,
-        size: &[u8],
-    ) -> Result<Found, CaptureFault>
-        requires { 4 ≤ length size.now }
-    {
+        size: u32,
+    ) -> Result<Found, CaptureFault> {
         match Blocks::begin(self.alloc, size, input) {
             Ok(blocks) => *self = blocks,
             Err(fault) => return Err(fault),
@@ -218,15 +213,14 @@ impl Blocks {
             Err(fault) => return Err(fault),
         }
         let order = self.section.order;
-        let count = order.number(&header, 12);
-        match self.take_part(input, u64::from(count), bytes) {
-            Ok(()) => {}
-            Err(fault) => return Err(fault),
-        }
         let (high, low) = (order.number(&header, 4), order.number(&header, 8));
         let ticks = u64::from(high) * 0x1_0000_0000 + u64::from(low);
         let stamp = self.section.stamp(order.number(&header, 0), ticks);
-        Ok(Found::Packet(stamp))
+        let count = order.number(&header, 12);
+        match self.take_part(input, u64::from(count), bytes) {
+            Ok(()) => Ok(Found::Packet(stamp)),
+            Err(fault) => Err(fault),
+        }
     }
 
     /// Fills a buffer with the next bytes of the block's body.

@@ -93,11 +93,7 @@ impl<R: Read> Capture<R> {
     {
         match &mut self.format {
             Format::Unread => self.read_head(),
-            Format::Classic(classic) => match classic.next(&mut self.input, bytes) {
-                Ok(Some(stamp)) => Ok(Found::Packet(stamp)),
-                Ok(None) => Ok(Found::End),
-                Err(fault) => Err(fault),
-            },
+            Format::Classic(classic) => classic.next(&mut self.input, bytes),
             Format::Blocks(blocks) => blocks.next(&mut self.input, bytes),
         }
     }
@@ -109,9 +105,16 @@ impl<R: Read> Capture<R> {
             Ok(()) => {}
             Err(fault) => return Err(fault),
         }
-        match read_format(self.alloc, head, &mut self.input) {
-            Ok(format) => self.format = format,
-            Err(fault) => return Err(fault),
+        if u32::from_be_bytes(head) == SECTION {
+            match Blocks::read(self.alloc, &mut self.input) {
+                Ok(blocks) => self.format = Format::Blocks(blocks),
+                Err(fault) => return Err(fault),
+            }
+        } else {
+            match Classic::read(head, &mut self.input) {
+                Ok(classic) => self.format = Format::Classic(classic),
+                Err(fault) => return Err(fault),
+            }
         }
         Ok(Found::Other)
     }
@@ -123,25 +126,5 @@ impl<R: Read> Capture<R> {
             link: stamp.link,
             micros: stamp.micros,
         }
-    }
-}
-
-fn read_format<R: Read>(
-    alloc: Global,
-    head: [u8; 4],
-    input: &mut BufReader<R>,
-) -> Result<Format, CaptureFault> {
-    if u32::from_be_bytes(head) == SECTION {
-        return match Blocks::read(alloc, input) {
-            Ok(blocks) => Ok(Format::Blocks(blocks)),
-            Err(fault) => Err(fault),
-        };
-    }
-    let Some((order, clock)) = Classic::magic(head) else {
-        return Err(CaptureFault::Format);
-    };
-    match Classic::read(order, clock, input) {
-        Ok(classic) => Ok(Format::Classic(classic)),
-        Err(fault) => Err(fault),
     }
 }

@@ -3,6 +3,7 @@
 ghost use Rattle.std.specs.Prelude.{vec_len};
 ghost use Rattle.tftp_capture.specs.Record.{StaysWithin};
 
+use crate::block::Found;
 use crate::capture::{MAX_RECORD, Stamp};
 use crate::clock::Clock;
 use crate::fault::CaptureFault;
@@ -31,12 +32,14 @@ impl Classic {
         }
     }
 
-    /// Reads the header after its first four bytes.
+    /// Reads the header, of which the first four bytes are read.
     pub(crate) fn read<R: Read>(
-        order: Order,
-        clock: Clock,
+        head: [u8; 4],
         input: &mut BufReader<R>,
     ) -> Result<Classic, CaptureFault> {
+        let Some((order, clock)) = Classic::magic(head) else {
+            return Err(CaptureFault::Format);
+        };
         let mut header = [0; 20];
         match fill(input, &mut header) {
             // the upper half says whether a checksum follows each frame
@@ -49,18 +52,18 @@ impl Classic {
         }
     }
 
-    /// Reads the next record: `None` at the end.
+    /// Reads the next record.
     pub(crate) fn next<R: Read>(
         self,
         input: &mut BufReader<R>,
         bytes: &mut Vec<u8>,
-    ) -> Result<Option<Stamp>, CaptureFault>
+    ) -> Result<Found, CaptureFault>
         ensures { StaysWithin (vec_len bytes.old) (vec_len bytes.new) }
     {
         let mut header = [0; 16];
         match begins(input, &mut header) {
             Ok(true) => self.read_record(input, &header, bytes),
-            Ok(false) => Ok(None),
+            Ok(false) => Ok(Found::End),
             Err(fault) => Err(fault),
         }
     }
@@ -70,7 +73,7 @@ impl Classic {
         input: &mut BufReader<R>,
         header: &[u8; 16],
         bytes: &mut Vec<u8>,
-    ) -> Result<Option<Stamp>, CaptureFault>
+    ) -> Result<Found, CaptureFault>
         ensures { StaysWithin (vec_len bytes.old) (vec_len bytes.new) }
     {
         let count = self.order.number(header, 8) as usize;
@@ -81,7 +84,7 @@ impl Classic {
         let ticks = u64::from(self.order.number(header, 4));
         let micros = self.clock.micros(ticks).saturating_add(seconds * 1_000_000);
         match take_bytes(input, count, bytes) {
-            Ok(()) => Ok(Some(Stamp {
+            Ok(()) => Ok(Found::Packet(Stamp {
                 link: self.link,
                 micros,
             })),

@@ -5,59 +5,74 @@ ghost use Rattle.std.specs.IoError.{error_kind};
 ghost use Rattle.std.specs.declared.io.ErrorKind.TheVariants as error_kinds;
 ghost use Rattle.tftp_capture.specs.declared.fault.CaptureFault.TheVariants as capture_faults;
 
+use std::fmt;
 use std::io::{self, ErrorKind};
 use thiserror::Error;
 
 /// The first fault of a frame: why it has no UDP datagram over IPv4.
-#[derive(Clone, Copy, Debug, PartialEq, Eq, Error)]
+#[derive(Clone, Copy, Debug, Error)]
 pub enum FrameFault {
     /// Its kind of link is not known.
-    #[error("the link type is not supported")]
     Link,
     /// It ends before a header does.
-    #[error("the frame ends in a header")]
     Short,
     /// It is of another protocol than IPv4.
-    #[error("not IPv4")]
     NotIpv4,
     /// The lengths of the IPv4 header cannot be.
-    #[error("an IPv4 header with an impossible length")]
     Header,
     /// It is of another protocol than UDP.
-    #[error("not UDP")]
     NotUdp,
     /// It is a fragment after the first: it has no UDP header.
-    #[error("a later fragment")]
     Fragment,
     /// The length of the UDP header cannot be.
-    #[error("a UDP header with an impossible length")]
     Length,
 }
 
+impl fmt::Display for FrameFault {
+    fn fmt<W: fmt::Write>(&self, f: &mut fmt::Formatter<W>) -> fmt::Result {
+        f.write_str(match self {
+            FrameFault::Link => "the link type is not supported",
+            FrameFault::Short => "the frame ends in a header",
+            FrameFault::NotIpv4 => "not IPv4",
+            FrameFault::Header => "an IPv4 header with an impossible length",
+            FrameFault::NotUdp => "not UDP",
+            FrameFault::Fragment => "a later fragment",
+            FrameFault::Length => "a UDP header with an impossible length",
+        })
+    }
+}
+
 /// Why a capture is not read to its end.
-#[derive(Clone, Copy, Debug, PartialEq, Eq, Error)]
+#[derive(Clone, Copy, Debug, Error)]
 pub enum CaptureFault {
     /// Reading failed.
-    #[error("unreadable")]
     Unreadable,
     /// It ends within a record.
-    #[error("cut short")]
     Cut,
     /// It does not begin as a capture does.
-    #[error("not a capture")]
     Format,
     /// A record is longer than [`crate::MAX_RECORD`].
-    #[error("a record is too long")]
     TooLong,
     /// The length of a block cannot be.
-    #[error("a block with an impossible length")]
     Block,
     /// A section has more interfaces than a capture ever has.
-    #[error("too many interfaces")]
     Interfaces,
     /// An allocation failed.
-    #[error("out of memory")]
     Memory,
+}
+
+impl fmt::Display for CaptureFault {
+    fn fmt<W: fmt::Write>(&self, f: &mut fmt::Formatter<W>) -> fmt::Result {
+        f.write_str(match self {
+            CaptureFault::Unreadable => "unreadable",
+            CaptureFault::Cut => "cut short",
+            CaptureFault::Format => "not a capture",
+            CaptureFault::TooLong => "a record is too long",
+            CaptureFault::Block => "a block with an impossible length",
+            CaptureFault::Interfaces => "too many interfaces",
+            CaptureFault::Memory => "out of memory",
+        })
+    }
 }
 
 impl CaptureFault {

@@ -8,12 +8,15 @@ use crate::fault::CaptureFault;
 use crate::number::first;
 use std::io::{BufRead, BufReader, Read};
 
-/// Fills a buffer. It fails if the input ends before.
+/// Fills a buffer, from the reader's own if that has enough. It fails if the input ends before.
 pub(crate) fn fill<R: Read>(
     input: &mut BufReader<R>,
     buffer: &mut [u8],
 ) -> Result<(), CaptureFault> {
-    if take_ready(input, buffer) {
+    let ready = input.buffer();
+    if ready.len() >= buffer.len() {
+        buffer.copy_from_slice(first(ready, buffer.len()));
+        input.consume(buffer.len());
         return Ok(());
     }
     match input.read_exact(buffer) {
@@ -29,9 +32,6 @@ pub(crate) fn begins<R: Read>(
 ) -> Result<bool, CaptureFault>
     requires { 0 < length header.old }
 {
-    if take_ready(input, header) {
-        return Ok(true);
-    }
     let (first, rest) = header.split_at_mut(1);
     match fill(input, first) {
         Ok(()) => {}
@@ -46,28 +46,6 @@ pub(crate) fn begins<R: Read>(
 
 /// Replaces the bytes by the next `count` of the input.
 pub(crate) fn take_bytes<R: Read>(
-    input: &mut BufReader<R>,
-    count: usize,
-    bytes: &mut Vec<u8>,
-) -> Result<(), CaptureFault>
-    ensures ok { OnOk result (vec_len bytes.new ≡ count) }
-    ensures bound { count ≤ MAX_RECORD → StaysWithin (vec_len bytes.old) (vec_len bytes.new) }
-{
-    let ready = input.buffer();
-    if ready.len() < count {
-        return read_bytes(input, count, bytes);
-    }
-    bytes.clear();
-    match bytes.extend_from_slice(first(ready, count)) {
-        Ok(()) => {}
-        Err(_) => return Err(CaptureFault::Memory),
-    }
-    input.consume(count);
-    Ok(())
-}
-
-/// The same, of more than the reader's buffer has.
-fn read_bytes<R: Read>(
     input: &mut BufReader<R>,
     count: usize,
     bytes: &mut Vec<u8>,
@@ -94,15 +72,4 @@ pub(crate) fn skip<R: Read>(input: &mut BufReader<R>, count: u64) -> Result<(), 
         left -= most as u64;
     }
     Ok(())
-}
-
-/// Fills a buffer from the reader's own, if that has enough, and returns whether it has.
-fn take_ready<R: Read>(input: &mut BufReader<R>, buffer: &mut [u8]) -> bool {
-    let ready = input.buffer();
-    if ready.len() < buffer.len() {
-        return false;
-    }
-    buffer.copy_from_slice(first(ready, buffer.len()));
-    input.consume(buffer.len());
-    true
 }

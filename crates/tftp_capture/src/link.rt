@@ -11,7 +11,7 @@ use crate::number::{after, big_pair};
 const IPV4: u16 = 0x0800;
 
 /// How the frames of an interface begin.
-#[derive(Clone, Copy, Debug, PartialEq, Eq)]
+#[derive(Clone, Copy)]
 pub enum Link {
     /// Ethernet, with at most two VLAN tags.
     Ethernet,
