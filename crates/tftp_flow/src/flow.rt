@@ -1,6 +1,6 @@
 //! The transfers of a capture that are not over, and what belongs to none.
 
-ghost use Rattle.std.specs.Prelude.{◌≡◌, ◌<◌, ◌≤◌, ◌↔◌, true, false, max, IfOk, IsSome, OnErr, vec_len};
+ghost use Rattle.std.specs.Prelude.{◌≡◌, ◌≤◌, true, false, max, IfOk, OnErr, vec_len};
 ghost use Rattle.tftp_flow.specs.Flow.{Adds, IsSameLines, is_whole, lines_in};
 ghost use Rattle.tftp_flow.specs.CapturedTransfer.{is_due, is_silent, micros_of};
 
@@ -33,7 +33,6 @@ pub use report::{Ended, Opened};
 pub use seen::{Seen, Spot};
 use std::alloc::{AllocError, Global};
 use std::net::SocketAddrV4;
-use tftp_diagram::Diagram;
 pub use transfer_datagram::{Party, TransferDatagram, What};
 
 /// The most transfers of one client's endpoint that a datagram is looked for in.
@@ -178,17 +177,6 @@ impl Flow {
         self.whole
     }
 
-    /// The picture of a transfer, by its index; none if there is no such transfer.
-    pub fn diagram(&self, index: usize) -> Result<Option<Diagram>, AllocError>
-        ensures { IfOk result (λ diagram.
-            IsSome diagram ↔ (index < vec_len self.now.transfers)) }
-    {
-        match self.transfers.get(index) {
-            Some(transfer) => Ok(Some(transfer.diagram()?)),
-            None => Ok(None),
-        }
-    }
-
     /// Whether a second has passed since transfers that are over were dropped.
     pub fn is_due(&self) -> bool
         ensures { result ≡ is_due self.now }
@@ -235,38 +223,13 @@ impl Flow {
         if at_hand.is_some() {
             return at_hand;
         }
+        let index = &self.index;
         let mut candidates = Candidates::new();
-        self.look(self.index.of_client(seen.from), seen, &mut candidates);
-        self.look(self.index.of_client(seen.to), seen, &mut candidates);
-        self.look_at(self.index.of_server(seen.from), seen, &mut candidates);
-        self.look_at(self.index.of_server(seen.to), seen, &mut candidates);
+        candidates.look(transfers, index.of_client(seen.from), MOST_OF_PORT, seen);
+        candidates.look(transfers, index.of_client(seen.to), MOST_OF_PORT, seen);
+        candidates.look(transfers, index.of_server(seen.from), 1, seen);
+        candidates.look(transfers, index.of_server(seen.to), 1, seen);
         candidates.chosen()
-    }
-
-    /// Looks at the newest transfer of a client's endpoint, and at those before it.
-    fn look(&self, newest: Option<u64>, seen: &Seen<'_>, candidates: &mut Candidates) {
-        let mut next = newest;
-        for _ in 0..MOST_OF_PORT {
-            if next.is_none() {
-                return;
-            }
-            next = self.look_at(next, seen, candidates);
-        }
-    }
-
-    /// Looks at a transfer, and returns the one before it from its client's endpoint.
-    fn look_at(
-        &self,
-        number: Option<u64>,
-        seen: &Seen<'_>,
-        candidates: &mut Candidates,
-    ) -> Option<u64> {
-        let index = index_of(self.transfers.as_slice(), number?)?;
-        let transfer = self.transfers.get(index)?;
-        if let Some(part) = transfer.part_of(seen) {
-            candidates.add(Candidate { index, part }, transfer.is_open());
-        }
-        transfer.before
     }
 
     /// Gives a datagram to a transfer.
@@ -288,10 +251,9 @@ impl Flow {
         ensures err { OnErr result (IsSameLines self.old self.new) }
     {
         let number = self.begun.saturating_add(1);
-        let before = self.index.of_client(seen.from);
         self.recent.open()?;
         self.recent.forget(seen.from);
-        self.index.add_client(seen.from, number)?;
+        let before = self.index.add_client(seen.from, number)?;
         let transfer = CapturedTransfer::new(self.alloc, number, before, seen)?;
         self.transfers.push(transfer)?;
         self.link(before, number);

@@ -1,6 +1,8 @@
 //! Where a datagram belongs, among the transfers that have one of its endpoints.
 
-use crate::flow::captured_transfer::Part;
+use crate::flow::captured_transfer::{CapturedTransfer, Part};
+use crate::flow::recent::index_of;
+use crate::flow::seen::Seen;
 
 /// A transfer, by its index, and how a datagram belongs to it.
 #[derive(Clone, Copy)]
@@ -33,8 +35,34 @@ impl Candidates {
         }
     }
 
+    /// Looks at the newest transfer of an endpoint, and at those before it from there: at so many.
+    pub(crate) fn look(
+        &mut self,
+        transfers: &[CapturedTransfer],
+        newest: Option<u64>,
+        most: usize,
+        seen: &Seen<'_>,
+    ) {
+        let mut next = newest;
+        for _ in 0..most {
+            let Some(number) = next else {
+                return;
+            };
+            let Some(index) = index_of(transfers, number) else {
+                return;
+            };
+            let Some(transfer) = transfers.get(index) else {
+                return;
+            };
+            if let Some(part) = transfer.part_of(seen) {
+                self.add(Candidate { index, part }, transfer.is_open());
+            }
+            next = transfer.before;
+        }
+    }
+
     /// Adds a transfer.
-    pub(crate) fn add(&mut self, candidate: Candidate, is_open: bool) {
+    fn add(&mut self, candidate: Candidate, is_open: bool) {
         match candidate.part {
             Part::Own(_) => {
                 self.own = newer(self.own, candidate);

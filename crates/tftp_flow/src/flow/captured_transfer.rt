@@ -7,7 +7,7 @@ ghost use Rattle.tftp_flow.specs.CapturedTransfer.{is_open, is_silent, reported}
 use crate::flow::moment::{Moment, Span};
 use crate::flow::payload::Payload;
 use crate::flow::seen::{Seen, Spot, is_same_endpoint};
-use crate::flow::transfer_datagram::{Party, TransferDatagram, What, index_of_same};
+use crate::flow::transfer_datagram::{Party, TransferDatagram, What, newest_same};
 use std::alloc::{AllocError, Global};
 use std::fmt;
 use std::net::SocketAddrV4;
@@ -88,7 +88,7 @@ pub enum Ending {
 /// A transfer of a capture.
 #[derive(Drop)]
 pub struct CapturedTransfer {
-    alloc: Global,
+    pub(crate) alloc: Global,
     /// Its number, by the order of the requests, counted from 1.
     pub number: u64,
     /// The number of the last transfer before it from the client's endpoint.
@@ -143,20 +143,9 @@ impl CapturedTransfer {
     ) -> Result<CapturedTransfer, AllocError>
         ensures { IfOk result (λ transfer. given_to transfer ≡ 1) }
     {
-        let what = seen.payload.what;
-        let is_cut = seen.payload.is_cut();
         let request = seen.payload.line(alloc)?;
         let request_bytes = Vec::from_slice(alloc, seen.payload.bytes)?;
-        let mut datagrams = Vec::new(alloc);
-        datagrams.push(TransferDatagram {
-            spot: seen.spot,
-            at: seen.at,
-            by: Party::Client,
-            what,
-            gap: None,
-            is_cut,
-        })?;
-        Ok(CapturedTransfer {
+        let mut transfer = CapturedTransfer {
             alloc,
             number,
             before,
@@ -166,16 +155,16 @@ impl CapturedTransfer {
             server: None,
             request,
             request_bytes,
-            is_read: what == What::Read,
+            is_read: seen.payload.what == What::Read,
             began: seen.at,
             newest: seen.at,
             silence: Span::of_seconds(SILENCE),
             agreed: None,
             block_size: DEFAULT_BLOCK,
-            datagrams,
+            datagrams: Vec::new(alloc),
             asides: Vec::new(alloc),
             again: 0,
-            cut: usize::from(is_cut),
+            cut: 0,
             newest_data: None,
             newest_ack: None,
             last_block: None,
@@ -183,7 +172,11 @@ impl CapturedTransfer {
             bytes: 0,
             ending: Ending::Open,
             told: None,
-        })
+        };
+        match transfer.add_own(seen, Party::Client) {
+            Ok(()) => Ok(transfer),
+            Err(fault) => Err(fault),
+        }
     }
 
     /// How a datagram belongs to it, if at all (RFC 1350, section 4): it is known by its two
@@ -194,8 +187,8 @@ impl CapturedTransfer {
             return self.part_of_request(seen);
         }
         match self.server {
-            Some(server) => self.part_of_bound(server, seen),
-            None => self.part_of_answer(seen),
+            Some(server) => self.part_of_bound(server, seen.from, seen.to),
+            None => self.part_of_answer(seen.from, seen.to),
         }
     }
 
@@ -210,33 +203,44 @@ impl CapturedTransfer {
         }
     }
 
-    fn part_of_bound(&self, server: SocketAddrV4, seen: &Seen<'_>) -> Option<Part> {
-        let is_to_client = is_same_endpoint(seen.to, self.client);
-        let is_from_client = is_same_endpoint(seen.from, self.client);
-        let is_from_server = is_same_endpoint(seen.from, server);
-        let is_to_server = is_same_endpoint(seen.to, server);
-        if is_from_server && is_to_client {
-            Some(Part::Own(Party::Server))
-        } else if is_from_client && is_to_server {
-            Some(Part::Own(Party::Client))
-        } else if is_to_client && seen.from.ip() == server.ip() {
-            Some(Part::Beside(Why::SecondPort))
-        } else if is_to_client || is_to_server {
-            Some(Part::Beside(Why::Stranger))
-        } else if is_from_client || is_from_server {
+    fn part_of_bound(
+        &self,
+        server: SocketAddrV4,
+        from: SocketAddrV4,
+        to: SocketAddrV4,
+    ) -> Option<Part> {
+        let is_from_server = is_same_endpoint(from, server);
+        if is_same_endpoint(to, self.client) {
+            return Some(if is_from_server {
+                Part::Own(Party::Server)
+            } else if from.ip() == server.ip() {
+                Part::Beside(Why::SecondPort)
+            } else {
+                Part::Beside(Why::Stranger)
+            });
+        }
+        let is_from_client = is_same_endpoint(from, self.client);
+        if is_same_endpoint(to, server) {
+            return Some(if is_from_client {
+                Part::Own(Party::Client)
+            } else {
+                Part::Beside(Why::Stranger)
+            });
+        }
+        if is_from_client || is_from_server {
             Some(Part::Beside(Why::ToAnother))
         } else {
             None
         }
     }
 
-    fn part_of_answer(&self, seen: &Seen<'_>) -> Option<Part> {
-        let is_to_client = is_same_endpoint(seen.to, self.client);
-        if is_to_client && seen.from.ip() == self.asked_at.ip() {
+    fn part_of_answer(&self, from: SocketAddrV4, to: SocketAddrV4) -> Option<Part> {
+        let is_to_client = is_same_endpoint(to, self.client);
+        if is_to_client && from.ip() == self.asked_at.ip() {
             Some(Part::Answer)
         } else if is_to_client {
             Some(Part::Beside(Why::Stranger))
-        } else if is_same_endpoint(seen.from, self.client) {
+        } else if is_same_endpoint(from, self.client) {
             Some(Part::Beside(Why::ToAnother))
         } else {
             None
@@ -312,9 +316,11 @@ impl CapturedTransfer {
             return None;
         }
         let all = self.datagrams.as_slice();
-        let newest = all.get(all.len().saturating_sub(LOOK_BACK)..)?;
-        let before = newest.get(index_of_same(newest, by, what)?)?;
-        Some(at.since(before.at))
+        let (_, newest) = all.split_at(all.len().saturating_sub(LOOK_BACK));
+        match newest_same(newest, by, what) {
+            Some((_, before)) => Some(at.since(before.at)),
+            None => None,
+        }
     }
 
     /// Keeps the texts of the options that were agreed on and of the ERROR.
@@ -382,11 +388,6 @@ impl CapturedTransfer {
             number: self.bytes,
             name: "byte",
         }
-    }
-
-    /// The allocator of its texts.
-    pub(crate) fn alloc(&self) -> Global {
-        self.alloc
     }
 
     /// The block size that was agreed on.
@@ -479,10 +480,21 @@ fn silence_of(payload: &Payload<'_>) -> Span {
 
 /// The number that an OACK states for an option.
 fn stated(payload: &Payload<'_>, name: &[u8]) -> Option<u64> {
-    let option = payload
-        .agreed()?
-        .iter()
-        .find(|option| option.name.eq_ignore_ascii_case(name))?;
-    let number = str::from_utf8(option.value).ok()?.parse::<u32>().ok()?;
-    Some(u64::from(number))
+    for option in payload.agreed()?.iter() {
+        if option.name.eq_ignore_ascii_case(name) {
+            return number_of(option.value);
+        }
+    }
+    None
+}
+
+/// The number that a value spells, if it has 32 bits.
+fn number_of(value: &[u8]) -> Option<u64> {
+    let Ok(text) = str::from_utf8(value) else {
+        return None;
+    };
+    match text.parse::<u32>() {
+        Ok(number) => Some(u64::from(number)),
+        Err(_) => None,
+    }
 }

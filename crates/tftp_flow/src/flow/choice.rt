@@ -1,7 +1,7 @@
 //! Which datagrams of a transfer are drawn: all if each has a row, or else the first, the last and
 //! those around a repeat.
 
-use crate::flow::transfer_datagram::{TransferDatagram, index_of_same};
+use crate::flow::transfer_datagram::{Party, TransferDatagram, newest_same};
 use std::alloc::{AllocError, Global};
 
 /// The datagrams at the start of a long transfer that are drawn.
@@ -68,12 +68,15 @@ impl Choice {
         datagram: &TransferDatagram,
     ) {
         self.add(index);
-        let Some((before, repeated)) = repeated_by(datagrams, index, datagram) else {
+        let Some(earlier) = datagrams.get(..index) else {
+            return;
+        };
+        let Some((before, repeated)) = newest_same(earlier, datagram.by, datagram.what) else {
             return;
         };
         self.add(before);
         if repeated.gap.is_none() {
-            if let Some(answer) = answer_to(datagrams, before, repeated) {
+            if let Some(answer) = answer_to(datagrams, before, repeated.by) {
                 self.add(answer);
             }
         }
@@ -87,11 +90,7 @@ impl Choice {
         }
         let is_after = index > 0 && self.has(index - 1);
         let is_before = self.has(index.saturating_add(1));
-        let rows = match (is_after, is_before) {
-            (true, true) => 0,
-            (true, false) | (false, true) => 1,
-            (false, false) => 2,
-        };
+        let rows = usize::from(!is_after) + usize::from(!is_before);
         self.rows = self.rows.saturating_add(rows);
         if let Some(drawn) = self.drawn.get_mut(index) {
             *drawn = true;
@@ -99,25 +98,13 @@ impl Choice {
     }
 }
 
-/// The newest datagram before this one that it repeats, and its index.
-fn repeated_by<'e>(
-    datagrams: &'e [TransferDatagram],
-    index: usize,
-    datagram: &TransferDatagram,
-) -> Option<(usize, &'e TransferDatagram)> {
-    let before = index_of_same(datagrams.get(..index)?, datagram.by, datagram.what)?;
-    Some((before, datagrams.get(before)?))
-}
-
-/// The first datagram of the other end after this one that repeats nothing.
-fn answer_to(
-    datagrams: &[TransferDatagram],
-    index: usize,
-    datagram: &TransferDatagram,
-) -> Option<usize> {
-    let later = datagrams.get(index..)?;
-    let answer = later
-        .iter()
-        .position(|after| after.by != datagram.by && after.gap.is_none())?;
-    Some(index.saturating_add(answer))
+/// The first datagram of the other end after this index that repeats nothing.
+fn answer_to(datagrams: &[TransferDatagram], index: usize, by: Party) -> Option<usize> {
+    for later in index..datagrams.len() {
+        let datagram = datagrams[later];
+        if datagram.by != by && datagram.gap.is_none() {
+            return Some(later);
+        }
+    }
+    None
 }

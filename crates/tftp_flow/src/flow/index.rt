@@ -32,10 +32,13 @@ impl Index {
         self.servers.get(&at).copied()
     }
 
-    /// Notes the newest transfer of a client's endpoint.
-    pub(crate) fn add_client(&mut self, at: SocketAddrV4, number: u64) -> Result<(), AllocError> {
-        self.clients.insert(at, number)?;
-        Ok(())
+    /// Notes the newest transfer of a client's endpoint, and returns the one before it.
+    pub(crate) fn add_client(
+        &mut self,
+        at: SocketAddrV4,
+        number: u64,
+    ) -> Result<Option<u64>, AllocError> {
+        Ok(self.clients.insert(at, number)?)
     }
 
     /// Notes the newest transfer of a server's endpoint: the source of the first answer.

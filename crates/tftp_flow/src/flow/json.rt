@@ -12,26 +12,18 @@ pub struct Json<'t>(pub &'t CapturedTransfer);
 impl fmt::Display for Json<'_> {
     fn fmt<W: fmt::Write>(&self, f: &mut fmt::Formatter<W>) -> fmt::Result {
         self.write_request(f)?;
-        self.write_answer(f)?;
-        self.write_counts(f)?;
         self.write_ending(f)
     }
 }
 
 impl Json<'_> {
+    /// Its ends, its request, and what was agreed.
     fn write_request<W: fmt::Write>(&self, f: &mut fmt::Formatter<W>) -> fmt::Result {
         let (number, client, asked) = (self.0.number, self.0.client, self.0.asked_at);
         let kind = match self.0.sender() {
             Party::Server => "read",
             Party::Client => "write",
         };
-        write!(
-            f,
-            "{{\"transfer\":{number},\"kind\":\"{kind}\",\"client\":\"{client}\",\"asked\":\"{asked}\""
-        )
-    }
-
-    fn write_answer<W: fmt::Write>(&self, f: &mut fmt::Formatter<W>) -> fmt::Result {
         let server = match self.0.server {
             Some(server) => Value::Endpoint(server),
             None => Value::Null,
@@ -43,40 +35,31 @@ impl Json<'_> {
         };
         write!(
             f,
-            ",\"server\":{server},\"request\":{request},\"agreed\":{agreed}"
+            "{{\"transfer\":{number},\"kind\":\"{kind}\",\"client\":\"{client}\",\"asked\":\"{asked}\",\
+             \"server\":{server},\"request\":{request},\"agreed\":{agreed}"
         )
     }
 
-    fn write_counts<W: fmt::Write>(&self, f: &mut fmt::Formatter<W>) -> fmt::Result {
+    /// How much was sent, when, and how it ended.
+    fn write_ending<W: fmt::Write>(&self, f: &mut fmt::Formatter<W>) -> fmt::Result {
         let (size, blocks, bytes) = (self.0.block_size().number, self.0.blocks, self.0.bytes);
-        write!(
-            f,
-            ",\"block_size\":{size},\"blocks\":{blocks},\"bytes\":{bytes}"
-        )?;
         let (datagrams, again) = (self.0.datagrams.len(), self.0.again);
         let (beside, cut) = (self.0.asides.len(), self.0.cut);
+        let (began, lasted) = (self.0.began, self.0.lasted());
+        let (ended, error, by) = match &self.0.ending {
+            Ending::Open => ("open", Value::Null, Value::Null),
+            Ending::Complete => ("complete", Value::Null, Value::Null),
+            Ending::Error { by, text } => {
+                ("error", Value::Text(text.as_str()), Value::Text(by.name()))
+            }
+        };
         write!(
             f,
-            ",\"datagrams\":{datagrams},\"again\":{again},\"beside\":{beside},\"cut\":{cut}"
+            ",\"block_size\":{size},\"blocks\":{blocks},\"bytes\":{bytes},\
+             \"datagrams\":{datagrams},\"again\":{again},\"beside\":{beside},\"cut\":{cut},\
+             \"began\":{began},\"seconds\":{lasted},\
+             \"ended\":\"{ended}\",\"error\":{error},\"by\":{by}}}"
         )
-    }
-
-    fn write_ending<W: fmt::Write>(&self, f: &mut fmt::Formatter<W>) -> fmt::Result {
-        let (began, lasted) = (self.0.began, self.0.lasted());
-        write!(f, ",\"began\":{began},\"seconds\":{lasted}")?;
-        match &self.0.ending {
-            Ending::Open => f.write_str(",\"ended\":\"open\",\"error\":null,\"by\":null}"),
-            Ending::Complete => {
-                f.write_str(",\"ended\":\"complete\",\"error\":null,\"by\":null}")
-            }
-            Ending::Error { by, text } => {
-                let error = Value::Text(text.as_str());
-                write!(
-                    f,
-                    ",\"ended\":\"error\",\"error\":{error},\"by\":\"{by}\"}}"
-                )
-            }
-        }
     }
 }
 

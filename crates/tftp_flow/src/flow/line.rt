@@ -88,11 +88,17 @@ pub(crate) fn read_fields(
 impl<'a> Fields<'a> {
     /// The fields of a line of text, if it has six.
     fn of(text: &'a [u8]) -> Option<Fields<'a>> {
+        let Ok(text) = str::from_utf8(text) else {
+            return None;
+        };
         let mut six = [""; 6];
         let mut count = 0usize;
-        for field in str::from_utf8(text).ok()?.split('\t') {
-            *six.get_mut(count)? = field;
-            count = count.saturating_add(1);
+        for field in text.split('\t') {
+            if count >= six.len() {
+                return None;
+            }
+            six[count] = field;
+            count += 1;
         }
         if count < six.len() {
             return None;

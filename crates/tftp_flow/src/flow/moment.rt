@@ -24,9 +24,14 @@ impl Moment {
     /// of the fraction are dropped.
     pub(crate) fn parse(text: &str) -> Option<Moment> {
         let (seconds, fraction) = text.split_once('.').unwrap_or((text, ""));
-        let seconds = seconds.parse::<u64>().ok()?;
+        let Ok(seconds) = seconds.parse::<u64>() else {
+            return None;
+        };
         let micros = micros_of(fraction.as_bytes())?;
-        seconds.checked_mul(SECOND)?.checked_add(micros).map(Moment)
+        match seconds.checked_mul(SECOND)?.checked_add(micros) {
+            Some(micros) => Some(Moment(micros)),
+            None => None,
+        }
     }
 
     /// The moment of so many microseconds.

@@ -103,7 +103,10 @@ impl<'s> Payload<'s> {
                 Ok(()) => Ok(true),
                 Err(_) => Err(AllocError),
             },
-            Err(_) => show_datagram(self.bytes, out).map_err(|_| AllocError),
+            Err(_) => match show_datagram(self.bytes, out) {
+                Ok(is_packet) => Ok(is_packet),
+                Err(_) => Err(AllocError),
+            },
         }
     }
 }

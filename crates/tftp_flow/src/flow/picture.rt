@@ -58,8 +58,8 @@ impl LaneRole {
 impl CapturedTransfer {
     /// Its picture. Of a long transfer the first and the last datagrams are drawn, and those around
     /// one that was sent again.
-    pub(crate) fn diagram(&self) -> Result<Diagram, AllocError> {
-        let mut picture = Picture::new(self.alloc(), self.title()?);
+    pub fn diagram(&self) -> Result<Diagram, AllocError> {
+        let mut picture = Picture::new(self.alloc, self.title()?);
         match picture.draw(self) {
             Ok(()) => Ok(picture.diagram),
             Err(fault) => Err(fault),
@@ -68,8 +68,8 @@ impl CapturedTransfer {
 
     fn title(&self) -> Result<String, AllocError> {
         let (number, request) = (self.number, self.request.as_str());
-        let title = format!(in self.alloc(); "Transfer {number}: {request}")?;
-        shortened(self.alloc(), title)
+        let title = format!(in self.alloc; "Transfer {number}: {request}")?;
+        shortened(self.alloc, title)
     }
 
     /// Writes what the picture shows, and how much was sent.
@@ -79,13 +79,14 @@ impl CapturedTransfer {
             name: "datagram",
         };
         write!(out, "{seen}")?;
-        let again = self.again;
-        if again > 0 {
-            write!(out, ", {again} of them sent again")?;
-        }
-        let beside = self.asides.len();
-        if beside > 0 {
-            write!(out, ", {beside} beside it")?;
+        let parts = [
+            (self.again, "of them sent again"),
+            (self.asides.len(), "beside it"),
+        ];
+        for (number, what) in &parts {
+            if *number > 0 {
+                write!(out, ", {number} {what}")?;
+            }
         }
         let (blocks, bytes) = (self.block_count(), self.byte_count());
         write!(out, ": {blocks}, {bytes}.")
@@ -100,17 +101,16 @@ impl CapturedTransfer {
             ""
         };
         let line = match self.kept_line_of(datagram) {
-            Some(line) => format!(in self.alloc(); "{line}{note}")?,
-            None => format!(in self.alloc(); "{what}{note}")?,
+            Some(line) => format!(in self.alloc; "{line}{note}")?,
+            None => format!(in self.alloc; "{what}{note}")?,
         };
-        shortened(self.alloc(), line)
+        shortened(self.alloc, line)
     }
 
     /// The line of a datagram where it was kept.
     fn kept_line_of(&self, datagram: &TransferDatagram) -> Option<&str> {
         match datagram.what {
-            What::Read => Some(self.request.as_str()),
-            What::Write => Some(self.request.as_str()),
+            What::Read | What::Write => Some(self.request.as_str()),
             What::Options => match &self.agreed {
                 Some(agreed) => Some(agreed.as_str()),
                 None => None,
@@ -213,12 +213,16 @@ impl Picture {
 
     /// The lane of an endpoint; that of a stranger is added.
     fn lane_of(&mut self, at: SocketAddrV4) -> Result<usize, AllocError> {
-        if let Some(lane) = self.ports.iter().position(|port| *port == at) {
-            return Ok(lane);
+        for (lane, port) in self.ports.iter().enumerate() {
+            if *port == at {
+                return Ok(lane);
+            }
         }
         let lane = self.ports.len();
-        self.add_lane(at, LaneRole::Stranger)?;
-        Ok(lane)
+        match self.add_lane(at, LaneRole::Stranger) {
+            Ok(()) => Ok(lane),
+            Err(fault) => Err(fault),
+        }
     }
 
     /// The lanes of two endpoints.

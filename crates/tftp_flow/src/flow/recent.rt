@@ -11,23 +11,15 @@ use std::net::SocketAddrV4;
 /// How many endpoints are remembered at most: 2 to this power.
 const BITS: u32 = 10;
 
-/// Who has an endpoint.
-#[derive(Clone, Copy)]
-enum Owner {
-    /// No client.
-    Nobody,
-    /// A client, whose newest transfer from there has this index.
-    Client(usize),
-}
-
-/// An endpoint and its owner.
+/// An endpoint, and whether a client has it.
 #[derive(Clone, Copy)]
 struct Known {
     at: SocketAddrV4,
-    owner: Owner,
+    /// The index of the client's newest transfer from there; none if no client has the endpoint.
+    newest: Option<usize>,
 }
 
-/// The owners of endpoints, each at the slot of its endpoint, where a later one replaces it.
+/// What is known of endpoints, each at the slot of its endpoint, where a later one replaces it.
 #[derive(Drop)]
 pub(crate) struct Recent {
     known: Vec<Option<Known>>,
@@ -40,7 +32,7 @@ impl Recent {
         }
     }
 
-    /// Remembers owners from now on.
+    /// Remembers endpoints from now on.
     pub(crate) fn open(&mut self) -> Result<(), AllocError> {
         self.known.resize(1 << BITS, None)
     }
@@ -57,46 +49,45 @@ impl Recent {
         if seen.payload.what.is_request() {
             return None;
         }
-        let from = self.owner_of(seen.from, index, transfers)?;
-        let to = self.owner_of(seen.to, index, transfers)?;
+        let from = self.newest_of(seen.from, index, transfers);
+        let to = self.newest_of(seen.to, index, transfers);
         let index = match (from, to) {
-            (Owner::Client(index), Owner::Nobody) => index,
-            (Owner::Nobody, Owner::Client(index)) => index,
+            (Some(index), None) => index,
+            (None, Some(index)) => index,
             _ => return None,
         };
-        match transfers.get(index)?.part_of(seen)? {
-            Part::Own(by) => Some(Candidate {
-                index,
-                part: Part::Own(by),
-            }),
+        let part = transfers.get(index)?.part_of(seen)?;
+        match part {
+            Part::Own(_) => Some(Candidate { index, part }),
             _ => None,
         }
     }
 
-    /// The owner of an endpoint, by what is remembered or else by the index.
-    fn owner_of(
+    /// The index of the newest transfer of the client that has an endpoint, by what is remembered or
+    /// else by the index.
+    fn newest_of(
         &mut self,
         at: SocketAddrV4,
         index: &Index,
         transfers: &[CapturedTransfer],
-    ) -> Option<Owner> {
+    ) -> Option<usize> {
         let slot = slot_of(at);
         if let Some(Some(known)) = self.known.get(slot) {
             if is_same_endpoint(known.at, at) {
-                return Some(known.owner);
+                return known.newest;
             }
         }
-        let owner = match index.of_client(at) {
-            Some(number) => Owner::Client(index_of(transfers, number)?),
-            None => Owner::Nobody,
+        let newest = match index.of_client(at) {
+            Some(number) => index_of(transfers, number),
+            None => None,
         };
         if let Some(known) = self.known.get_mut(slot) {
-            *known = Some(Known { at, owner });
+            *known = Some(Known { at, newest });
         }
-        Some(owner)
+        newest
     }
 
-    /// Forgets an endpoint, which has another owner now.
+    /// Forgets an endpoint, which has another newest transfer now.
     pub(crate) fn forget(&mut self, at: SocketAddrV4) {
         if let Some(known) = self.known.get_mut(slot_of(at)) {
             *known = None;

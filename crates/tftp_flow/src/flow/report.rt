@@ -35,9 +35,17 @@ impl fmt::Display for Aside {
 impl fmt::Display for CapturedTransfer {
     fn fmt<W: fmt::Write>(&self, f: &mut fmt::Formatter<W>) -> fmt::Result {
         let (ends, request) = (Ends(self), self.request.as_str());
-        writeln!(f, "{ends}\n  asked    {request}")?;
-        self.write_answer(f)?;
-        self.write_moved(f)?;
+        let (answer, moved, cut) = (Answer(self), Moved(self), self.cut);
+        writeln!(
+            f,
+            "{ends}\n  asked    {request}\n  answered by {answer}\n  sent     {moved}"
+        )?;
+        if cut > 0 {
+            writeln!(
+                f,
+                "  cut      the capture has the beginning of {cut} of them"
+            )?;
+        }
         self.write_repeats(f)?;
         self.write_asides(f)?;
         let conclusion = Conclusion(self);
@@ -103,6 +111,25 @@ impl fmt::Display for Moved<'_> {
     }
 }
 
+/// Who answered, and what was agreed.
+#[derive(Clone, Copy)]
+struct Answer<'t>(&'t CapturedTransfer);
+
+impl fmt::Display for Answer<'_> {
+    fn fmt<W: fmt::Write>(&self, f: &mut fmt::Formatter<W>) -> fmt::Result {
+        let Some(server) = self.0.server else {
+            return f.write_str("nobody");
+        };
+        let agreed = match &self.0.agreed {
+            Some(agreed) => agreed.as_str(),
+            None if self.0.blocks == 0 => return write!(f, "{server}"),
+            None => "no options",
+        };
+        let size = self.0.block_size();
+        write!(f, "{server}\n  agreed   {agreed}: blocks of {size}")
+    }
+}
+
 /// How a transfer ended. Of one that did not: its last datagram, and who did not answer it.
 #[derive(Clone, Copy)]
 struct Conclusion<'t>(&'t CapturedTransfer);
@@ -110,51 +137,31 @@ struct Conclusion<'t>(&'t CapturedTransfer);
 impl fmt::Display for Conclusion<'_> {
     fn fmt<W: fmt::Write>(&self, f: &mut fmt::Formatter<W>) -> fmt::Result {
         match &self.0.ending {
-            Ending::Complete => f.write_str("complete"),
-            Ending::Error { by, text } => write!(f, "{text} of the {by}"),
-            Ending::Open => self.0.write_open(f),
+            Ending::Complete => return f.write_str("complete"),
+            Ending::Error { by, text } => return write!(f, "{text} of the {by}"),
+            Ending::Open => {}
         }
+        let Some(last) = self.0.datagrams.last() else {
+            return f.write_str("nothing was sent");
+        };
+        let (what, by, silent) = (last.what, last.by, last.by.other());
+        write!(
+            f,
+            "nothing after {what} of the {by}: the {silent} was silent"
+        )
     }
 }
 
 impl CapturedTransfer {
-    /// Who answered, and what was agreed.
-    fn write_answer<W: fmt::Write>(&self, f: &mut fmt::Formatter<W>) -> fmt::Result {
-        let Some(server) = self.server else {
-            return f.write_str("  answered by nobody\n");
-        };
-        let agreed = match &self.agreed {
-            Some(agreed) => agreed.as_str(),
-            None if self.blocks == 0 => return writeln!(f, "  answered by {server}"),
-            None => "no options",
-        };
-        let size = self.block_size();
-        writeln!(
-            f,
-            "  answered by {server}\n  agreed   {agreed}: blocks of {size}"
-        )
-    }
-
-    /// How much was sent, and the datagrams whose end was not seen.
-    fn write_moved<W: fmt::Write>(&self, f: &mut fmt::Formatter<W>) -> fmt::Result {
-        let (moved, cut) = (Moved(self), self.cut);
-        writeln!(f, "  sent     {moved}")?;
-        if cut == 0 {
-            return Ok(());
-        }
-        writeln!(
-            f,
-            "  cut      the capture has the beginning of {cut} of them"
-        )
-    }
-
-    /// The datagrams that were sent again.
+    /// The datagrams that were sent again, each with how long after the one before.
     fn write_repeats<W: fmt::Write>(&self, f: &mut fmt::Formatter<W>) -> fmt::Result {
         let mut left = MAX_REPEATS;
         for datagram in &self.datagrams {
-            if datagram.gap.is_some() && left > 0 {
-                writeln!(f, "  again    {datagram}")?;
-                left -= 1;
+            if let Some(gap) = datagram.gap {
+                if left > 0 {
+                    writeln!(f, "  again    {datagram} after {gap} s")?;
+                    left -= 1;
+                }
             }
         }
         let more = self.again.saturating_sub(MAX_REPEATS);
@@ -170,17 +177,5 @@ impl CapturedTransfer {
             writeln!(f, "  beside   {aside}")?;
         }
         Ok(())
-    }
-
-    /// The last datagram of a transfer that did not end, and who did not answer it.
-    fn write_open<W: fmt::Write>(&self, f: &mut fmt::Formatter<W>) -> fmt::Result {
-        let Some(last) = self.datagrams.last() else {
-            return f.write_str("nothing was sent");
-        };
-        let (what, by, silent) = (last.what, last.by, last.by.other());
-        write!(
-            f,
-            "nothing after {what} of the {by}: the {silent} was silent"
-        )
     }
 }

@@ -147,25 +147,27 @@ pub struct TransferDatagram {
     pub is_cut: bool,
 }
 
-/// A datagram that was sent again: what, by whom, and how long after the one before.
+/// Where it stands, what it is, and who sent it.
 impl fmt::Display for TransferDatagram {
     fn fmt<W: fmt::Write>(&self, f: &mut fmt::Formatter<W>) -> fmt::Result {
         let (spot, by, what) = (self.spot, self.by, self.what);
-        write!(f, "{spot}: {what} of the {by}")?;
-        match self.gap {
-            Some(gap) => write!(f, " after {gap} s"),
-            None => Ok(()),
-        }
+        write!(f, "{spot}: {what} of the {by}")
     }
 }
 
-/// The index of the newest of these datagrams that this end sent and that is the same.
-pub(crate) fn index_of_same(
+/// The newest of these datagrams that this end sent and that is the same, and its index.
+pub(crate) fn newest_same(
     datagrams: &[TransferDatagram],
     by: Party,
     what: What,
-) -> Option<usize> {
-    datagrams
-        .iter()
-        .rposition(|it| it.by == by && it.what == what)
+) -> Option<(usize, TransferDatagram)> {
+    for index in (0..datagrams.len()).rev() {
+        let Some(datagram) = datagrams.get(index) else {
+            return None;
+        };
+        if datagram.by == by && datagram.what == what {
+            return Some((index, *datagram));
+        }
+    }
+    None
 }
