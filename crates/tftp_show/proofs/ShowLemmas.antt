@@ -1,10 +1,8 @@
 -- The lines of an input, one by one, and what is printed for them.
 use Rattle.std.proofs.Common.{ℕ, suc, ◌≡◌, ◌<◌, ◌-◌, Bool, true, false, cond, ◌&&◌, eqb, refl, ap, sym, subst, ◌∙◌}
 use Rattle.std.proofs.Common.{arith, lt-ltb, List, [], ◌∷◌, ◌++◌, length, append_assoc, Option, Some, None}
-use Rattle.std.specs.Prelude.{⊤, MatchResult, IfOk, IsErrAnd, IfSome}
+use Rattle.std.specs.Prelude.{⊤, IfSome}
 use Rattle.std.proofs.Math.Bool.{and_assoc}
-use Rattle.std.specs.declared.result.Result.{Result}
-use Rattle.std.specs.declared.result.Result.TheVariants.{Ok, Err}
 use Rattle.std.specs.Io.BufRead.{take_through, drop_through, strip_last, DropsThrough}
 use Rattle.std.specs.Io.KnownBytes.{Appends}
 use Rattle.hex.specs.Hex.{decode_of}
@@ -13,15 +11,6 @@ use Rattle.tftp_show.specs.Show.{onto_first, lines_of, line_shown, spells_packet
 by_test : {G : Type 0} (b : Bool) → (b ≡ true → G) → (b ≡ false → G) → G
 by_test true holds fails = holds refl
 by_test false holds fails = fails refl
-
--- ---- a line
-
--- another error instead of one
-pub kept_ok : {E D : Type 0} (r : Result Bool E) (s : Result Bool D) (Q : E → D → Type 0) (P : Bool → Type 0) →
-    MatchResult r (λ x. s ≡ Ok x) (λ e. IsErrAnd s (Q e)) → IfOk r P → IfOk s P
-kept_ok (Ok x) s Q P h p = subst (λ t. IfOk t P) (sym h) p
-kept_ok (Err e) (Ok x) Q P h p = absurd h
-kept_ok (Err e) (Err d) Q P h p = tt
 
 -- ---- lines
 

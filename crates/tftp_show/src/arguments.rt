@@ -160,9 +160,10 @@ fn show_source<R: Runtime + AllocGlobal, I: Read + Drop, E: Write + Drop>(
 
 /// What a command line asks for.
 fn task_of(matches: &ArgMatches<'_>, is_live: bool) -> Task {
-    let number = matches
-        .get_one::<u32>("transfer")
-        .map(|number| number as u64);
+    let number = match matches.get_one::<u32>("transfer") {
+        Some(number) => Some(u64::from(number)),
+        None => None,
+    };
     let style = style_of(matches);
     let draws = matches.get_str("svg").is_some();
     Task {

@@ -28,7 +28,6 @@ struct LeftOut {
 /// What is printed of a capture, and what is to be said in the end.
 #[derive(Drop)]
 pub(crate) struct Printer<W> {
-    alloc: Global,
     output: W,
     task: Task,
     flow: Flow,
@@ -59,7 +58,6 @@ impl<W: Write> Printer<W> {
     /// A printer of lines, all of which are TFTP, or of frames.
     pub(crate) fn new(alloc: Global, output: W, task: Task, port: Option<u16>) -> Printer<W> {
         Printer {
-            alloc,
             output,
             task,
             flow: Flow::new(alloc, port),
@@ -207,13 +205,13 @@ impl<W: Write> Printer<W> {
     /// Prints what a datagram changed.
     fn print_assigned(&mut self, assigned: Assigned) -> Result<(), ShowFault> {
         match assigned {
-            Assigned::Begun => self.print_begun()?,
-            Assigned::Given(index) => self.print_given(index)?,
-            Assigned::Stray | Assigned::Unread => self.print_others()?,
-            Assigned::Ignored => {}
-        }
+            Assigned::Begun => self.print_begun(),
+            Assigned::Given(index) => self.print_given(index),
+            Assigned::Stray | Assigned::Unread => self.print_others(),
+            Assigned::Ignored => Ok(()),
+        }?;
         if self.flow.is_due() {
-            self.print_over()?;
+            return self.print_over();
         }
         Ok(())
     }
@@ -302,7 +300,7 @@ impl<W: Write> Printer<W> {
         };
         let (number, more, is_told) = (transfer.number, transfer.untold(), transfer.is_told());
         if self.task.drawn == Some(number) {
-            self.diagram = self.flow.diagram(index)?;
+            self.diagram = Some(transfer.diagram()?);
         }
         if !is_told {
             return self.tell(index);
@@ -336,16 +334,16 @@ fn write_transfer<W: Write>(
     transfer: &CapturedTransfer,
 ) -> Result<(), ShowFault> {
     match style {
-        Style::Packets => {}
-        Style::Report => write!(output, "{transfer}")?,
+        Style::Packets => Ok(()),
+        Style::Report => write!(output, "{transfer}"),
         Style::Follow => {
             let ended = Ended(transfer);
-            writeln!(output, "{ended}")?;
+            writeln!(output, "{ended}")
         }
         Style::Json => {
             let object = Json(transfer);
-            writeln!(output, "{object}")?;
+            writeln!(output, "{object}")
         }
-    }
+    }?;
     Ok(())
 }

@@ -5,7 +5,7 @@ ghost use Rattle.std.specs.Prelude.{◌≡◌, ◌≤◌};
 ghost use Rattle.tftp_show.specs.Outcome.{outcome_status};
 
 use crate::printer::{Outcome, Printer};
-use crate::show::{LONGEST_LINE, ShowFault, read_line, show_reported};
+use crate::show::{LONGEST_LINE, ShowFault, read_line, show_buffered};
 use crate::task::{Style, Task};
 use std::alloc::Global;
 use std::io::{self, BufReader, BufWriter, Cursor, ErrorKind, Read, Write};
@@ -39,23 +39,14 @@ pub fn report_flow<R: Read + Drop, W: Write + Drop, E: Write + Drop>(
 /// memory or there is no such transfer.
 pub fn shown<R: Read + Drop, W: Write + Drop, E: Write + Drop>(
     alloc: Global,
-    mut input: R,
+    input: R,
     output: W,
     task: Task,
     mut errors: E,
 ) -> u8
     ensures { result ≤ 2 }
 {
-    let head = match read_head(alloc, &mut input) {
-        Ok(head) => head,
-        Err(fault) => return fault.report(&mut errors),
-    };
-    let is_frames = begins_a_capture(head.as_slice());
-    let input = Cursor::new(head).chain(input);
-    if task.style == Style::Packets && !is_frames {
-        return show_reported(alloc, input, output, errors);
-    }
-    match read_all(alloc, input, output, task, is_frames) {
+    match read_input(alloc, input, output, task) {
         Ok(outcome) => outcome.status(&mut errors),
         Err(fault) => fault.report(&mut errors),
     }
@@ -91,7 +82,7 @@ where
 /// As [`shown`], and draws the transfer that the task has for it.
 pub(crate) fn drawn<R, W, E, P, F>(
     alloc: Global,
-    mut input: R,
+    input: R,
     output: W,
     task: Task,
     picture: F,
@@ -106,13 +97,7 @@ where
     requires { F.IsAlwaysCallable picture }
     ensures { result ≤ 2 }
 {
-    let head = match read_head(alloc, &mut input) {
-        Ok(head) => head,
-        Err(fault) => return fault.report(&mut errors),
-    };
-    let is_frames = begins_a_capture(head.as_slice());
-    let input = Cursor::new(head).chain(input);
-    let outcome = match read_all(alloc, input, output, task, is_frames) {
+    let outcome = match read_input(alloc, input, output, task) {
         Ok(outcome) => outcome,
         Err(fault) => return fault.report(&mut errors),
     };
@@ -120,6 +105,28 @@ where
         Ok(()) => outcome.status(&mut errors),
         Err(fault) => fault.report(&mut errors),
     }
+}
+
+/// Reads lines or a capture, and writes what the task asks for.
+fn read_input<R: Read + Drop, W: Write + Drop>(
+    alloc: Global,
+    mut input: R,
+    output: W,
+    task: Task,
+) -> Result<Outcome, ShowFault> {
+    let head = match read_head(alloc, &mut input) {
+        Ok(head) => head,
+        Err(fault) => return Err(fault),
+    };
+    let is_frames = begins_a_capture(head.as_slice());
+    let input = Cursor::new(head).chain(input);
+    if task.style == Style::Packets && !is_frames {
+        return match show_buffered(alloc, input, output) {
+            Ok(are_packets) => Ok(Outcome::of_lines(are_packets)),
+            Err(fault) => Err(fault),
+        };
+    }
+    read_all(alloc, input, output, task, is_frames)
 }
 
 /// The first four bytes of an input, or all if it has fewer.
@@ -148,6 +155,15 @@ fn begins_a_capture(head: &[u8]) -> bool {
 }
 
 impl Outcome {
+    /// The outcome of lines, each of which was printed.
+    fn of_lines(are_packets: bool) -> Outcome {
+        Outcome {
+            is_whole: are_packets,
+            diagram: None,
+            cut: None,
+        }
+    }
+
     /// The status, with a message for a capture that is cut short or damaged.
     fn status<E: Write>(&self, errors: &mut E) -> u8
         ensures { result ≡ outcome_status self.now }
@@ -168,25 +184,17 @@ fn read_all<R: Read + Drop, W: Write + Drop>(
     task: Task,
     is_frames: bool,
 ) -> Result<Outcome, ShowFault> {
-    let input = BufReader::with_capacity(alloc, AT_ONCE, input)?;
+    let mut input = BufReader::with_capacity(alloc, AT_ONCE, input)?;
     let output = BufWriter::new(alloc, output)?;
+    let port = if is_frames { Some(task.port) } else { None };
+    let mut printer = Printer::new(alloc, output, task, port);
+    let mut bytes = Vec::new(alloc);
     if is_frames {
-        let printer = Printer::new(alloc, output, task, Some(task.port));
-        read_frames(alloc, input, printer)
+        let mut capture = Capture::new(alloc, input);
+        print_frames(&mut capture, &mut bytes, &mut printer)
     } else {
-        let printer = Printer::new(alloc, output, task, None);
-        read_lines(alloc, input, printer)
+        print_lines(&mut input, &mut bytes, &mut printer)
     }
-}
-
-/// Reads the lines of a capture.
-fn read_lines<R: Read + Drop, W: Write + Drop>(
-    alloc: Global,
-    mut input: BufReader<R>,
-    mut printer: Printer<W>,
-) -> Result<Outcome, ShowFault> {
-    let mut line = Vec::new(alloc);
-    print_lines(&mut input, &mut line, &mut printer)
 }
 
 /// Prints the lines of an input, each of which is read into `line`.
@@ -207,17 +215,6 @@ fn print_lines<R: Read, W: Write>(
         printer.rest(input.buffer().is_empty())?;
     }
     Err(ShowFault::Unreadable)
-}
-
-/// Reads the frames of a capture.
-fn read_frames<R: Read + Drop, W: Write + Drop>(
-    alloc: Global,
-    input: BufReader<R>,
-    mut printer: Printer<W>,
-) -> Result<Outcome, ShowFault> {
-    let mut capture = Capture::new(alloc, input);
-    let mut frame = Vec::new(alloc);
-    print_frames(&mut capture, &mut frame, &mut printer)
 }
 
 /// Prints the frames of a capture, each of which is read into `frame`.

@@ -55,7 +55,8 @@ pub fn show_reported<R: Read + Drop, W: Write + Drop, E: Write + Drop>(
     }
 }
 
-fn show_buffered<R: Read + Drop, W: Write + Drop>(
+/// As [`show_run`], and returns whether all lines were packets.
+pub(crate) fn show_buffered<R: Read + Drop, W: Write + Drop>(
     alloc: Global,
     input: R,
     output: W,
@@ -139,5 +140,8 @@ fn show_line(digits: &[u8], bytes: &mut Vec<u8>, text: &mut String) -> Result<bo
         return Ok(true);
     }
     decode_digits(digits, bytes)?;
-    show_datagram(bytes.as_slice(), text).map_err(|_| AllocError)
+    match show_datagram(bytes.as_slice(), text) {
+        Ok(is_packet) => Ok(is_packet),
+        Err(_) => Err(AllocError),
+    }
 }

@@ -7,6 +7,7 @@ ghost use Rattle.tftp_show.specs.declared.show.fault.ShowFault.TheVariants.{Clos
 ghost use Rattle.tftp_show.specs.declared.show.fault.ShowFault.TheVariants.{Unreadable, Unwritable};
 
 use std::alloc::AllocError;
+use std::fmt;
 use std::io::{self, ErrorKind, Write};
 use thiserror::Error;
 
@@ -14,26 +15,33 @@ use thiserror::Error;
 #[derive(Clone, Copy, Debug, PartialEq, Eq, Error)]
 pub enum ShowFault {
     /// Reading failed.
-    #[error("input unreadable")]
     Unreadable,
     /// Writing failed.
-    #[error("output unwritable")]
     Unwritable,
     /// The output is a pipe that nobody reads any more.
-    #[error("output closed")]
     Closed,
     /// An allocation failed.
-    #[error("out of memory")]
     Memory,
     /// A line is longer than that of any datagram.
-    #[error("a line is longer than a datagram")]
     Long,
     /// The picture could not be opened or written.
-    #[error("svg unwritable")]
     Undrawn,
     /// The capture has no transfer of this number.
-    #[error("no such transfer")]
     NoTransfer,
+}
+
+impl fmt::Display for ShowFault {
+    fn fmt<W: fmt::Write>(&self, f: &mut fmt::Formatter<W>) -> fmt::Result {
+        f.write_str(match self {
+            ShowFault::Unreadable => "input unreadable",
+            ShowFault::Unwritable => "output unwritable",
+            ShowFault::Closed => "output closed",
+            ShowFault::Memory => "out of memory",
+            ShowFault::Long => "a line is longer than a datagram",
+            ShowFault::Undrawn => "svg unwritable",
+            ShowFault::NoTransfer => "no such transfer",
+        })
+    }
 }
 
 impl ShowFault {
