@@ -3,7 +3,7 @@
 use crate::diagram::{Host, MarkKind};
 
 /// A colour, named for what it marks.
-#[derive(Clone, Copy, PartialEq, Eq)]
+#[derive(Clone, Copy)]
 pub(crate) enum Ink {
     /// The clients' host.
     Client,

@@ -23,7 +23,7 @@ impl Area {
     }
 
     /// Whether two rectangles have a point in common.
-    pub(crate) fn overlaps(&self, other: &Area) -> bool {
+    pub(crate) fn overlaps(self, other: Area) -> bool {
         self.left < other.right
             && other.left < self.right
             && self.top < other.bottom
@@ -32,7 +32,7 @@ impl Area {
 
     /// Whether a line comes through the rectangle: its ends are not both beyond one edge, and the
     /// corners are not all on one side of it.
-    pub(crate) fn is_crossed_by(&self, line: &Line) -> bool {
+    pub(crate) fn is_crossed_by(self, line: Line) -> bool {
         let (from, to) = (line.from, line.to);
         if from.x.max(to.x) <= self.left || from.x.min(to.x) >= self.right {
             return false;
@@ -51,7 +51,7 @@ impl Area {
 }
 
 /// Positive on one side of a line, negative on the other, and 0 on it.
-fn side_of(line: &Line, x: u32, y: u32) -> i64 {
+fn side_of(line: Line, x: u32, y: u32) -> i64 {
     let (across, down) = (
         distance(line.from.x, line.to.x),
         distance(line.from.y, line.to.y),

@@ -41,11 +41,10 @@ impl Columns {
             stops: Vec::new(alloc),
             times: width_of_times(diagram),
         };
-        for host in [Host::Client, Host::Server, Host::Stranger] {
-            columns.add_host(diagram, host)?;
+        match columns.space(alloc, diagram) {
+            Ok(()) => Ok(columns),
+            Err(fault) => Err(fault),
         }
-        columns.space(alloc, diagram)?;
-        Ok(columns)
     }
 
     /// The position of a lane.
@@ -86,8 +85,11 @@ impl Columns {
         }
     }
 
-    /// Gives the lanes their space.
+    /// Puts the lanes in their order, and gives them their space.
     fn space(&mut self, alloc: Global, diagram: &Diagram) -> Result<(), AllocError> {
+        for host in [Host::Client, Host::Server, Host::Stranger] {
+            self.add_host(diagram, host)?;
+        }
         let mut needs = Vec::new(alloc);
         self.add_needs(diagram, &mut needs)?;
         for stop in 0..self.last_stop().saturating_add(1) {
@@ -112,10 +114,12 @@ impl Columns {
     }
 
     fn stop_of(&self, lane: usize) -> usize {
-        match self.order.iter().position(|index| *index == lane) {
-            Some(place) => place.saturating_add(1),
-            None => 0,
+        for (place, index) in self.order.iter().enumerate() {
+            if *index == lane {
+                return place.saturating_add(1);
+            }
         }
+        0
     }
 
     fn x_at(&self, stop: usize) -> u32 {

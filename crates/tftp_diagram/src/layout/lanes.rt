@@ -23,7 +23,9 @@ impl Layout {
         for (index, lane) in diagram.lanes.iter().enumerate() {
             let x = columns.x_of(index);
             self.add_lane_line(diagram, x, lane)?;
-            self.add_open_line(diagram, x, index)?;
+            if lane.is_end {
+                self.add_open_line(diagram, x, index, lane)?;
+            }
             self.add_frame(x, lane)?;
             self.add_foot(diagram, x, lane)?;
         }
@@ -43,7 +45,13 @@ impl Layout {
     }
 
     /// From where the end sends its first datagram to where it closes, or to the foot.
-    fn add_open_line(&mut self, diagram: &Diagram, x: u32, index: usize) -> Result<(), AllocError> {
+    fn add_open_line(
+        &mut self,
+        diagram: &Diagram,
+        x: u32,
+        index: usize,
+        lane: &Lane,
+    ) -> Result<(), AllocError> {
         let Some(first) = first_sent(diagram, index) else {
             return Ok(());
         };
@@ -59,7 +67,7 @@ impl Layout {
         self.lines.push(Line {
             from: Point { x, y: first },
             to: Point { x, y: foot },
-            ink: Ink::of_host(diagram.host_of(index)),
+            ink: Ink::of_host(lane.host),
             stroke: Stroke::Open,
         })?;
         Ok(())
@@ -103,18 +111,20 @@ impl Layout {
 
 /// Where the end of a lane sends its first datagram.
 fn first_sent(diagram: &Diagram, index: usize) -> Option<u32> {
-    if !diagram.lanes.get(index)?.is_end {
-        return None;
+    for flight in &diagram.flights {
+        if flight.from == index {
+            return Some(sending_of(flight.sent));
+        }
     }
-    let first = diagram.flights.iter().find(|flight| flight.from == index)?;
-    Some(sending_of(first.sent))
+    None
 }
 
 /// Where the end of a lane closes.
 fn closing_in(diagram: &Diagram, index: usize) -> Option<u32> {
-    let close = diagram
-        .marks
-        .iter()
-        .find(|mark| mark.lane == index && mark.kind.is_close())?;
-    Some(closing_of(close.row))
+    for mark in &diagram.marks {
+        if mark.lane == index && mark.kind.is_close() {
+            return Some(closing_of(mark.row));
+        }
+    }
+    None
 }

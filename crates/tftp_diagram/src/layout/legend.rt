@@ -1,6 +1,6 @@
 //! The legend: a sample of each mark that is in the picture, and what it means.
 
-use crate::diagram::{Course, Diagram, Flight, MarkKind};
+use crate::diagram::{Course, Diagram, MarkKind};
 use crate::ink::Ink;
 use crate::layout::heading::LEFT;
 use crate::layout::notes::sign_of;
@@ -73,8 +73,7 @@ impl Entry {
 impl Layout {
     /// Adds a line for each kind of mark that the picture has, and sets its height.
     pub(crate) fn add_legend(&mut self, diagram: &Diagram) -> Result<(), AllocError> {
-        let mut flights = diagram.flights.iter();
-        let is_seen = flights.any(|flight| flight.course == Course::Seen);
+        let is_seen = has_seen(diagram);
         let mut middle = self.lowest(diagram).saturating_add(BELOW);
         for (entry, text) in &ENTRIES {
             if self.has(diagram, *entry) {
@@ -89,10 +88,29 @@ impl Layout {
     /// Whether the picture has this.
     fn has(&self, diagram: &Diagram, entry: Entry) -> bool {
         match entry {
-            Entry::Line(stroke) => self.lines.iter().any(|line| line.stroke == stroke),
-            Entry::Lost => diagram.flights.iter().any(Flight::is_lost),
-            Entry::Mark(kind) => diagram.marks.iter().any(|mark| mark.kind == kind),
+            Entry::Line(stroke) => {
+                for line in &self.lines {
+                    if line.stroke == stroke {
+                        return true;
+                    }
+                }
+            }
+            Entry::Lost => {
+                for flight in &diagram.flights {
+                    if flight.is_lost() {
+                        return true;
+                    }
+                }
+            }
+            Entry::Mark(kind) => {
+                for mark in &diagram.marks {
+                    if mark.kind == kind {
+                        return true;
+                    }
+                }
+            }
         }
+        false
     }
 
     /// The line of the lowest text.
@@ -131,4 +149,14 @@ impl Layout {
         })?;
         Ok(())
     }
+}
+
+/// Whether a datagram was seen on the wire, in place of being followed.
+fn has_seen(diagram: &Diagram) -> bool {
+    for flight in &diagram.flights {
+        if flight.course == Course::Seen {
+            return true;
+        }
+    }
+    false
 }

@@ -50,7 +50,10 @@ impl Layout {
 
     /// A note for each time that a datagram arrives again.
     fn add_repeats(&mut self, flight: &Flight, columns: &Columns) -> Result<(), AllocError> {
-        for row in flight.arrivals.iter().skip(1) {
+        let [_, later @ ..] = flight.arrivals.as_slice() else {
+            return Ok(());
+        };
+        for row in later {
             let at = Point {
                 x: columns.x_of(flight.to),
                 y: arrival_of(*row).saturating_sub(ABOVE),

@@ -98,7 +98,7 @@ impl Layout {
             side,
         };
         for spot in wanted.all() {
-            if self.is_free(columns, &spot.area(width)) {
+            if self.is_free(columns, spot.area(width)) {
                 return self.add_spot(spot, width, ink, text);
             }
         }
@@ -112,12 +112,21 @@ impl Layout {
     }
 
     /// Whether a text may be here.
-    fn is_free(&self, columns: &Columns, area: &Area) -> bool {
-        area.left > columns.left()
-            && area.right < columns.width()
-            && !self.lines.iter().any(|line| line.stroke != Stroke::Lane
-                && area.is_crossed_by(line))
-            && !self.taken.iter().any(|other| area.overlaps(other))
+    fn is_free(&self, columns: &Columns, area: Area) -> bool {
+        if area.left <= columns.left() || area.right >= columns.width() {
+            return false;
+        }
+        for line in &self.lines {
+            if line.stroke != Stroke::Lane && area.is_crossed_by(*line) {
+                return false;
+            }
+        }
+        for other in &self.taken {
+            if area.overlaps(*other) {
+                return false;
+            }
+        }
+        true
     }
 
     /// Adds a text in its place, and hides the lane behind it.
