@@ -1,13 +1,15 @@
 //! The command line of `tftpd`, and the configuration that its words name.
 
-ghost use Rattle.std.specs.Prelude.{◌≡◌, ◌≤◌, Some, codes, drop, length, map, IfOk, IfSome};
+ghost use Rattle.std.specs.Prelude.{◌≡◌, ◌≤◌, ℕ, List, Some, codes, drop, length, map, IfOk};
+ghost use Rattle.std.specs.Prelude.{IfSome};
 ghost use Rattle.clap.specs.Matches.{first_value, found_of};
 ghost use Rattle.clap.specs.Walk.{rows_of};
 ghost use Rattle.tftp_server.specs.Config.{IsConfig};
 ghost use Rattle.tftp_arguments.specs.Fault.{AskForText};
 ghost use Rattle.tftp_arguments.specs.Read.{IsNumber, read_of};
 ghost use Rattle.tftp_arguments.specs.Rules.{IsApp};
-ghost use Rattle.tftp_daemon.specs.CommandLine.{ConfiguresAs, EndsAs, IfExit, IfRun, NameEndpoints};
+ghost use Rattle.tftp_daemon.specs.CommandLine.{ConfiguresAs, EndsAs, HasApart, IfExit, IfRun};
+ghost use Rattle.tftp_daemon.specs.CommandLine.{NameEndpoints, NamesListen};
 ghost use Rattle.tftp_daemon.specs.CommandLine.{NamesServer, PortsAs, ServersAs, ServersFor};
 ghost use Rattle.tftp_daemon.specs.CommandLine.{StartsInRows, backoff_of, most_each, words_of};
 ghost use Rattle.tftp_daemon.specs.Refused.{Configures};
@@ -273,27 +275,22 @@ fn service<'a>(
     ensures ports { IfSome result (λ config. config.ports ≡ ports) }
     ensures servers { IfSome result (λ config. config.instance.servers ≡ servers) }
 {
-    let root = matches.get_str(ROOT)?;
-    let listen = Listen::named(matches.get_str(LISTEN)?)?;
-    if !has_apart(listen, others.as_slice()) {
+    let Some(required) = required_in(matches, others.as_slice()) else {
         return None;
-    }
-    let config = config(matches)?;
-    let ending = ending(matches)?;
-    let length_memory = length_memory(matches)?;
+    };
     Some(DaemonConfig {
-        root,
-        config,
+        root: required.root,
+        config: required.config,
         read_only: is_on(matches, READ_ONLY),
         uploads: matches.get_str(UPLOADS),
-        listen,
+        listen: required.listen,
         others,
         ports,
         requests_only: is_on(matches, REQUESTS_ONLY),
         per_client: matches.get_one::<u8>(PER_CLIENT),
-        ending,
+        ending: required.ending,
         longest: matches.get_one::<u32>(LONGEST),
-        length_memory,
+        length_memory: required.length_memory,
         backoff: backoff(is_on(matches, BACKOFF)),
         drain: matches.get_str(DRAIN),
         status: matches.get_str(STATUS),
@@ -304,6 +301,45 @@ fn service<'a>(
             server: matches.get_one::<u8>(SERVER),
         },
         has_priority: errors.has_priority(),
+    })
+}
+
+/// What each command line has: ROOT, and the values of the options with a default.
+#[derive(Clone, Copy)]
+struct Required<'a> {
+    root: &'a str,
+    listen: Listen,
+    config: Config,
+    ending: Ending,
+    length_memory: u64,
+}
+
+/// These values of the matched words, or `None` if the first address is invalid, or one of it and these
+/// others stands twice.
+fn required_in<'a>(matches: &ArgMatches<'a>, others: &[Endpoint]) -> Option<Required<'a>>
+    ensures root { IfSome result (λ required.
+        (read_of matches.now).word (codes "ROOT") ≡ Some required.root.now) }
+    ensures listen { IfSome result (λ required. (word : List ℕ)
+        × ((read_of matches.now).word (codes "listen") ≡ Some word)
+        × NamesListen word required.listen) }
+    ensures apart { IfSome result (λ required. HasApart required.listen others.now) }
+    ensures valid { IfSome result (λ required. IsConfig required.config) }
+    ensures limits { IfSome result (λ required. ConfiguresAs (read_of matches.now) required.config) }
+    ensures ending { IfSome result (λ required. EndsAs (read_of matches.now) required.ending) }
+    ensures length_memory { IfSome result (λ required. IsNumber 64
+        ((read_of matches.now).text (codes "length-memory")) (Some required.length_memory)) }
+{
+    let root = matches.get_str(ROOT)?;
+    let listen = Listen::named(matches.get_str(LISTEN)?)?;
+    if !has_apart(listen, others) {
+        return None;
+    }
+    Some(Required {
+        root,
+        listen,
+        config: config(matches)?,
+        ending: ending(matches)?,
+        length_memory: length_memory(matches)?,
     })
 }
 

@@ -2,11 +2,10 @@
 
 ghost use Rattle.std.specs.Prelude.{◌≡◌, ◌≤◌, [], IfSome, IsFalse, IsTrue, None, OnOk, option_map};
 ghost use Rattle.tftp_server.specs.Config.{IsConfig};
-ghost use Rattle.tftp_daemon.specs.Configured.{IsOfSeveral, ListensAt, MayServe, RunsService};
+ghost use Rattle.tftp_daemon.specs.Configured.{IsOfSeveral, ListensAt, MayServe};
 ghost use Rattle.tftp_daemon.specs.Configured.{daemon_status, servers_of, service_at, stamp_of};
 ghost use Rattle.tftp_daemon.specs.Reports.{IsReportOf, ReportsAt};
 ghost use Rattle.tftp_daemon.specs.Supervised.{MaySupervise, Supervised};
-ghost use Rattle.tftp_status.specs.StatusFile.{KeepsCounts};
 
 use crate::device::ServerDevice;
 use crate::drain_file::DrainFile;
@@ -25,9 +24,9 @@ use tftp_file::Source;
 use tftp_folder::{FolderSource, FolderStore};
 use tftp_lines::Reason;
 use tftp_loop::{Ending, LoopConfig, LoopFault, PortRange};
-use tftp_server::{Config, Server, Store};
+use tftp_server::{Config, Store};
 use tftp_service::{HandedFault, Input, LineStamp};
-use tftp_sockets::{DrainSignal, ErrorLines, ServerUdp};
+use tftp_sockets::{ErrorLines, ServerUdp};
 use tftp_status::{Reporting, UnusedDisk};
 use tftp_supervisor::Supervise;
 
@@ -202,7 +201,7 @@ pub(crate) fn serve<P: Print + ErrorLines + Clock + Supervise, N: ServerUdp + Ep
     serve_alone(host, config, input)
 }
 
-/// Supervises several servers, if the folder can be served: else each of them would say so.
+/// Supervises several servers, and is left with what their supervisor does not use.
 fn supervise_checked<P: Print + Eprint + Clock + Supervise, N: ServerUdp, D: Disk>(
     host: Host<'_, P, N, D>,
     config: &DaemonConfig<'_>,
@@ -220,11 +219,25 @@ fn supervise_checked<P: Print + Eprint + Clock + Supervise, N: ServerUdp, D: Dis
         served,
         counts,
     } = host;
+    let supervised = supervise_folder(rt, alloc, served, config, input);
     let reporting = Reporting::new(alloc, counts, None);
-    let devices = Devices { net, reporting };
+    (supervised, Devices { net, reporting })
+}
+
+/// Supervises several servers, if the folder can be served: else each of them would say so.
+fn supervise_folder<P: Print + Eprint + Clock + Supervise, D: Disk>(
+    rt: &P,
+    alloc: Global,
+    served: D,
+    config: &DaemonConfig<'_>,
+    input: Input,
+) -> Result<(), DaemonFault>
+    requires { IsConfig config.now.config }
+    ensures { OnOk result (Supervised P.supervised config.now) }
+{
     match open_server(served, alloc, config) {
-        Ok(_) => (supervise(rt, alloc, config, input), devices),
-        Err(fault) => (Err(fault), devices),
+        Ok(_) => supervise(rt, alloc, config, input),
+        Err(fault) => Err(fault),
     }
 }
 
@@ -281,38 +294,45 @@ fn serve_with<N: ServerUdp + Eprint, D: Disk>(
     ensures reports { IfSome result.1.reporting.report
         (λ report. IsReportOf config.now report.status) }
 {
-    let service = config.service_at(setup.port.endpoint());
-    let signal = DrainFile::new(served.view(), config.drain);
-    match open_server(served, alloc, config) {
-        Ok(server) => {
-            let mut device = ServerDevice::new(net, alloc, counts, setup);
-            let result = serve_loop(&mut device, alloc, server, &service, &signal);
-            (result, device.into_devices())
-        }
-        Err(fault) => {
-            let reporting = Reporting::new(alloc, counts, None);
-            (Err(fault), Devices { net, reporting })
-        }
-    }
+    let at = setup.port.endpoint();
+    let mut device = ServerDevice::new(net, alloc, counts, setup);
+    let result = serve_folder(&mut device, alloc, served, config, at);
+    device.keeps_counts();
+    (result, device.into_devices())
 }
 
-/// Serves from the request port.
-fn serve_loop<N: ServerUdp + Eprint, D: Disk, G: DrainSignal>(
+/// Serves the folder from the request port at this endpoint.
+fn serve_folder<N: ServerUdp + Eprint, D: Disk>(
     device: &mut ServerDevice<N, D>,
     alloc: Global,
-    server: Server<FolderStore<D>>,
-    service: &LoopConfig,
-    signal: &G,
+    served: D,
+    config: &DaemonConfig<'_>,
+    at: Endpoint,
 ) -> Result<(), DaemonFault>
-    ensures runs { RunsService ⟦<FolderStore<D> as Store>⟧.meaning
-        ⟦<FolderSource<D::View> as Source>⟧.meaning service.now server (daemon_status result)
+    requires valid { IsConfig config.now.config }
+    requires alone { config.now.instance.servers ≤ 1 }
+    requires at_one_address { config.now.others.items ≡ [] }
+    requires listens { ListensAt config.now.listen at }
+    ensures status { daemon_status result ≤ 2 }
+    ensures runs { MayServe D.log (D.log served) ⟦<FolderStore<D> as Store>⟧.meaning
+        ⟦<FolderSource<D::View> as Source>⟧.meaning config.now (daemon_status result)
         (N.log device.old.net) (N.log device.new.net) }
     ensures file { option_map (λ report. report.status.file) device.new.reporting.report
         ≡ option_map (λ report. report.status.file) device.old.reporting.report }
-    ensures keeps { IfSome device.new.reporting.report (λ report. KeepsCounts report.status) }
 {
-    let served = tftp_loop::serve(device, alloc, server, service, signal);
-    device.keeps_counts();
+    let service = config.service_at(at);
+    let signal = DrainFile::new(served.view(), config.drain);
+    match open_server(served, alloc, config) {
+        Ok(server) => ended(tftp_loop::serve(device, alloc, server, &service, &signal)),
+        Err(fault) => Err(fault),
+    }
+}
+
+/// How serving ended, by the result of the loop.
+fn ended(served: Result<(), LoopFault>) -> Result<(), DaemonFault>
+    ensures same { daemon_status result ≡ daemon_status served }
+    ensures most { daemon_status result ≤ 2 }
+{
     match served {
         Ok(()) => Ok(()),
         Err(fault) => Err(DaemonFault::Loop(fault)),

@@ -237,12 +237,12 @@ impl<N: ServerUdp + Eprint, D: Disk> Eprint for ServerDevice<N, D> {
         if self.stamp.is_empty() {
             return self.net.eprintln(value);
         }
-        let words = format!(in self.alloc; "{value}")?;
-        let millis = if self.stamp.has_time {
-            self.net.utc_millis()
-        } else {
-            None
-        };
-        self.net.eprintln(self.stamp.line(words.as_str(), millis))
+        match format!(in self.alloc; "{value}") {
+            Ok(words) => {
+                let millis = self.net.utc_millis();
+                self.net.eprintln(self.stamp.line(words.as_str(), millis))
+            }
+            Err(error) => Err(io::Error::from(error)),
+        }
     }
 }

@@ -1,11 +1,13 @@
 //! The options of `tftpd`, with their texts.
 
-ghost use Rattle.std.specs.Prelude.{◌≡◌, codes, IfOk};
+ghost use Rattle.std.specs.Prelude.{◌≡◌, List, codes, IfOk};
 ghost use Rattle.std.specs.Fmt.{decimal};
 ghost use Rattle.std.specs.String.{string_bytes};
+ghost use Rattle.clap.specs.Simple.{App};
+ghost use Rattle.clap.specs.Walk.{Rule};
 ghost use Rattle.tftp_server.specs.Config.{default_config};
 ghost use Rattle.tftp_arguments.specs.Rules.{HasRule, HaveRules, IsApp, by_default, flag_rule};
-ghost use Rattle.tftp_arguments.specs.Rules.{within};
+ghost use Rattle.tftp_arguments.specs.Rules.{with_rules, within};
 ghost use Rattle.tftp_daemon.specs.Words.{any_number, bare_app, option_rule, repeated, tftpd_app};
 ghost use Rattle.tftp_daemon.specs.Words.{folder_and_ports, limits, servers_and_log};
 ghost use Rattle.tftp_daemon.specs.Words.{writes_and_ending};
@@ -94,15 +96,26 @@ impl Texts {
 pub(crate) fn command<'a>(alloc: Global, texts: &'a Texts) -> Result<Command<'a>, AllocError>
     ensures { IfOk result (IsApp tftpd_app) }
 {
-    let folder_and_ports = folder_and_ports(alloc)?;
-    let limits = limits(alloc, texts)?;
-    let writes_and_ending = writes_and_ending(alloc)?;
-    let servers_and_log = servers_and_log(alloc)?;
-    bare_command(alloc)?
-        .args(folder_and_ports)?
-        .args(limits)?
-        .args(writes_and_ending)?
-        .args(servers_and_log)
+    let command = bare_command(alloc)?;
+    let command = with_args(command, folder_and_ports(alloc))?;
+    let command = with_args(command, limits(alloc, texts))?;
+    let command = with_args(command, writes_and_ending(alloc))?;
+    with_args(command, servers_and_log(alloc))
+}
+
+/// A command with these arguments too, if there was memory for them.
+fn with_args<'a>(
+    command: Command<'a>,
+    args: Result<Vec<Arg<'a>>, AllocError>,
+) -> Result<Command<'a>, AllocError>
+    ensures { (app : App) (rules : List Rule) → IsApp app command.entry
+        → IfOk args.entry (λ args. HaveRules rules args.items)
+        → IfOk result (IsApp (with_rules app rules)) }
+{
+    match args {
+        Ok(args) => command.args(args),
+        Err(error) => Err(error),
+    }
 }
 
 /// The command line of `tftpd` without arguments.

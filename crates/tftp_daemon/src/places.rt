@@ -37,30 +37,54 @@ pub(crate) fn places_of<R: Supervise + Clock + Eprint>(
     input: Input,
 ) -> Result<Vec<Place>, DaemonFault> {
     let mut places = Vec::new(alloc);
-    let first = first_place(rt, config, input)?;
-    add_places(&mut places, &first, config.instance.servers)?;
-    for at in config.others.iter() {
-        let place = place_at(rt, config, *at)?;
-        add_places(&mut places, &place, config.instance.servers)?;
+    match add_all(rt, &mut places, config, input) {
+        Ok(()) => Ok(places),
+        Err(fault) => Err(fault),
     }
-    if let Listen::At(at) = config.listen {
-        if places.iter().all(|place| is_absent(place)) {
-            let _ = bound_socket(rt, at)?;
-        }
-    }
-    Ok(places)
 }
 
-/// Whether an address is absent.
-fn is_absent(place: &Place) -> bool {
+/// Adds the places of all servers.
+fn add_all<R: Supervise + Clock + Eprint>(
+    rt: &R,
+    places: &mut Vec<Place>,
+    config: &DaemonConfig<'_>,
+    input: Input,
+) -> Result<(), DaemonFault> {
+    let servers = config.instance.servers;
+    add_places(places, first_place(rt, config, input), servers)?;
+    for at in config.others.iter() {
+        add_places(places, place_at(rt, config, *at), servers)?;
+    }
+    match config.listen {
+        Listen::At(at) if are_absent(places.as_slice()) => check_bind(rt, at),
+        _ => Ok(()),
+    }
+}
+
+/// Whether all addresses are absent.
+fn are_absent(places: &[Place]) -> bool {
+    for place in places {
+        if let Place::Bound(_) = place {
+            return false;
+        }
+    }
+    true
+}
+
+/// Adds a place that was found, once for each of so many servers.
+fn add_places(
+    places: &mut Vec<Place>,
+    place: Result<Place, DaemonFault>,
+    servers: u8,
+) -> Result<(), DaemonFault> {
     match place {
-        Place::Bound(_) => false,
-        Place::Absent(_) => true,
+        Ok(place) => add_place(places, &place, servers),
+        Err(fault) => Err(fault),
     }
 }
 
 /// Adds a place, once for each of so many servers.
-fn add_places(places: &mut Vec<Place>, place: &Place, servers: u8) -> Result<(), DaemonFault> {
+fn add_place(places: &mut Vec<Place>, place: &Place, servers: u8) -> Result<(), DaemonFault> {
     for _ in 0..servers {
         let same = match same_place(place) {
             Ok(same) => same,
@@ -115,13 +139,10 @@ fn place_at<R: Supervise + Clock + Eprint>(
     }
 }
 
-/// A socket that is bound to this endpoint.
-fn bound_socket<R: Supervise + Clock + Eprint>(
-    rt: &R,
-    at: Endpoint,
-) -> Result<OwnedFd, DaemonFault> {
+/// Tries once more whether a socket can be bound to this endpoint.
+fn check_bind<R: Supervise + Clock + Eprint>(rt: &R, at: Endpoint) -> Result<(), DaemonFault> {
     match bind(rt, at) {
-        Ok(socket) => Ok(socket),
+        Ok(_) => Ok(()),
         Err(error) => Err(DaemonFault::Bind(at, reason_of(&error))),
     }
 }

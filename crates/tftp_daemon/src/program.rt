@@ -11,11 +11,13 @@ ghost use Rattle.tftp_daemon.specs.Supervised.{MaySupervise, SupervisesWords};
 use crate::command_line::{CommandLine, read_words};
 use crate::daemon::{DaemonConfig, DaemonFault, StatusFault, serve};
 use crate::host::{Devices, Host};
+use crate::listen::Listen;
 use crate::options::Texts;
 use crate::shown::Shown;
 use crate::surroundings::Surroundings;
 use std::convert::AsStr;
 use std::net::Net;
+use std::process::ExitStatus;
 use std::random::RandomSource;
 use std::rt::Runtime;
 use std::time::Clock;
@@ -27,10 +29,16 @@ use tftp_folder::{FolderSource, FolderStore};
 use tftp_lines::Reason;
 use tftp_loop::LoopFault;
 use tftp_server::Store;
-use tftp_service::Input;
+use tftp_service::{HandedFault, Input};
 use tftp_sockets::{ErrorLines, ServerUdp, SystemUdp, WholeLines};
 use tftp_status::UnusedDisk;
 use tftp_supervisor::Supervise;
+
+/// What is refused if a server of several does not start.
+const START: &str = "a server did not start";
+
+/// What is refused if lines cannot be written, or nobody reads them.
+const OUTPUT: &str = "standard output";
 
 /// Runs `tftpd` with the program's own command line, and this standard input, and returns its status.
 ///
@@ -106,41 +114,16 @@ pub fn tftpd_on<
     ensures reports { IfSome result.1.reporting.report
         (λ report. ReportsWords (map S.text words.now) report.status) }
 {
-    match Texts::new(host.alloc) {
-        Ok(texts) => serve_texts(host, &texts, words, input, surroundings),
-        Err(_) => (print_no_memory(host.rt, "tftpd"), host.into_devices()),
-    }
-}
-
-/// Reads the words, and serves by them.
-fn serve_texts<
-    'a,
-    P: Print + ErrorLines + Clock + Supervise,
-    N: ServerUdp + Eprint,
-    D: Disk,
-    S: AsStr,
->(
-    host: Host<'_, P, N, D>,
-    texts: &'a Texts,
-    words: &'a [S],
-    input: Input,
-    surroundings: Surroundings,
-) -> (u8, Devices<N, D>)
-    ensures status { result.0 ≤ 2 }
-    ensures runs { ServesWords D.log (D.log host.entry.served) ⟦<FolderStore<D> as Store>⟧.meaning
-        ⟦<FolderSource<D::View> as Source>⟧.meaning (map S.text words.now) result.0
-        (N.log host.entry.net) (N.log result.1.net) }
-    ensures several { SupervisesWords P.supervised (map S.text words.now) result.0 }
-    ensures reports { IfSome result.1.reporting.report
-        (λ report. ReportsWords (map S.text words.now) report.status) }
-{
-    match read_words(host.rt, host.alloc, texts, words, surroundings) {
+    let Ok(texts) = Texts::new(host.alloc) else {
+        return (print_no_memory(host.rt, "tftpd"), host.into_devices());
+    };
+    match read_words(host.rt, host.alloc, &texts, words, surroundings) {
         Ok(line) => serve_command_line(host, &line, input),
         Err(_) => (print_no_memory(host.rt, "tftpd"), host.into_devices()),
     }
 }
 
-/// Does what the command line has the program do.
+/// Does what the command line has the program do: serves by a configuration, and reports a fault.
 fn serve_command_line<P: Print + ErrorLines + Clock + Supervise, N: ServerUdp + Eprint, D: Disk>(
     host: Host<'_, P, N, D>,
     line: &CommandLine<'_>,
@@ -160,29 +143,13 @@ fn serve_command_line<P: Print + ErrorLines + Clock + Supervise, N: ServerUdp + 
     ensures unreported { IfExit line.now (λ _. result.1.reporting.report ≡ None) }
 {
     match line {
-        CommandLine::Run(config) => serve_config(host, config, input),
+        CommandLine::Run(config) => {
+            let rt = host.rt;
+            let (served, devices) = serve(host, config, input);
+            (report(rt, config, served), devices)
+        }
         CommandLine::Exit(status) => (*status, host.into_devices()),
     }
-}
-
-/// Serves by a configuration, reports a fault, and returns the status.
-fn serve_config<P: Print + ErrorLines + Clock + Supervise, N: ServerUdp + Eprint, D: Disk>(
-    host: Host<'_, P, N, D>,
-    config: &DaemonConfig<'_>,
-    input: Input,
-) -> (u8, Devices<N, D>)
-    requires { IsConfig config.now.config }
-    ensures status { result.0 ≤ 2 }
-    ensures runs { MayServe D.log (D.log host.entry.served) ⟦<FolderStore<D> as Store>⟧.meaning
-        ⟦<FolderSource<D::View> as Source>⟧.meaning config.now result.0 (N.log host.entry.net)
-        (N.log result.1.net) }
-    ensures several { MaySupervise P.supervised config.now result.0 }
-    ensures reports { IfSome result.1.reporting.report
-        (λ report. IsReportOf config.now report.status) }
-{
-    let rt = host.rt;
-    let (served, devices) = serve(host, config, input);
-    (report(rt, config, served), devices)
 }
 
 /// Prints the fault, if there is one, and returns the status. A server of several whose supervisor
@@ -237,37 +204,109 @@ fn print_fault<R: Eprint>(
     fault: DaemonFault,
 ) -> io::Result<()> {
     eprintln!(rt; "{mark}tftpd: {}", name_of(fault))?;
-    match fault {
-        DaemonFault::Root(reason) => eprintln!(rt; "{mark}tftpd: {}: {reason}", Shown(config.root)),
+    match refused(config, fault) {
+        Some((subject, cause)) => eprintln!(rt; "{mark}tftpd: {subject}: {cause}"),
+        None => Ok(()),
+    }
+}
+
+/// What was refused.
+#[derive(Clone, Copy)]
+enum Subject<'a> {
+    /// What these words say.
+    Named(&'static str),
+    /// A path, behind the option that it is of.
+    Path(&'static str, &'a str),
+    /// The socket where requests arrive.
+    Requests(Listen),
+    /// This server of several.
+    Server(u8),
+}
+
+impl fmt::Display for Subject<'_> {
+    fn fmt<W: fmt::Write>(&self, f: &mut fmt::Formatter<W>) -> fmt::Result {
+        match *self {
+            Subject::Named(words) => f.write_str(words),
+            Subject::Path(option, path) => write!(f, "{option}{}", Shown(path)),
+            Subject::Requests(listen) => write!(f, "{listen}"),
+            Subject::Server(server) => write!(f, "server {server}"),
+        }
+    }
+}
+
+/// Why it was refused.
+#[derive(Clone, Copy)]
+enum Cause {
+    /// As these words say.
+    Words(&'static str),
+    /// For this reason, with a note behind it.
+    Reason(Reason, &'static str),
+    /// Standard input is no request port.
+    Handed(HandedFault),
+    /// The server ended so.
+    Ended(ExitStatus),
+}
+
+impl fmt::Display for Cause {
+    fn fmt<W: fmt::Write>(&self, f: &mut fmt::Formatter<W>) -> fmt::Result {
+        match *self {
+            Cause::Words(words) => f.write_str(words),
+            Cause::Reason(reason, note) => write!(f, "{reason}{note}"),
+            Cause::Handed(fault) => write!(f, "{fault}"),
+            Cause::Ended(status) => write!(f, "{status}"),
+        }
+    }
+}
+
+/// What a fault refused, and why; `None` of one whose name says all.
+fn refused<'a>(config: &DaemonConfig<'a>, fault: DaemonFault) -> Option<(Subject<'a>, Cause)> {
+    let refused = match fault {
+        DaemonFault::Root(reason) => (Subject::Path("", config.root), Cause::Reason(reason, "")),
         DaemonFault::Uploads(reason) => {
-            print_uploads(rt, mark, config.uploads.unwrap_or(""), reason)
+            let folder = config.uploads.unwrap_or("");
+            (
+                Subject::Path("--uploads ", folder),
+                Cause::Reason(reason, note_on(folder)),
+            )
         }
         DaemonFault::Status(fault) => {
-            let file = Shown(config.status.unwrap_or(""));
-            eprintln!(rt; "{mark}tftpd: --status {file}: {}", why_not(fault))
+            let file = config.status.unwrap_or("");
+            (
+                Subject::Path("--status ", file),
+                Cause::Words(why_not(fault)),
+            )
         }
-        DaemonFault::Loop(LoopFault::Socket(reason)) => {
-            eprintln!(rt; "{mark}tftpd: {}: {reason}", config.listen)
+        DaemonFault::Handed(fault) => (Subject::Requests(config.listen), Cause::Handed(fault)),
+        DaemonFault::Bind(at, reason) => {
+            (Subject::Requests(Listen::At(at)), Cause::Reason(reason, ""))
         }
-        DaemonFault::Bind(at, reason) => eprintln!(rt; "{mark}tftpd: {at}: {reason}"),
-        DaemonFault::Handed(fault) => eprintln!(rt; "{mark}tftpd: {}: {fault}", config.listen),
-        DaemonFault::Loop(LoopFault::Output) => {
-            eprintln!(rt; "{mark}tftpd: standard output: cannot be written")
-        }
-        DaemonFault::Loop(LoopFault::NoReader) => {
-            eprintln!(rt; "{mark}tftpd: standard output: nobody reads it any more")
-        }
+        DaemonFault::Loop(fault) => return refused_in_loop(config.listen, fault),
         DaemonFault::Program(reason) => {
-            eprintln!(rt; "{mark}tftpd: --servers: /proc/self/exe: {reason}")
+            (
+                Subject::Named("--servers: /proc/self/exe"),
+                Cause::Reason(reason, ""),
+            )
         }
-        DaemonFault::Start(reason) => {
-            eprintln!(rt; "{mark}tftpd: a server did not start: {reason}")
+        DaemonFault::Start(reason) => (Subject::Named(START), Cause::Reason(reason, "")),
+        DaemonFault::Server(server, status) => (Subject::Server(server), Cause::Ended(status)),
+        DaemonFault::Words => (Subject::Named(START), Cause::Words("its words")),
+        DaemonFault::Memory => return None,
+    };
+    Some(refused)
+}
+
+/// As [`refused`], of a fault while a server served.
+fn refused_in_loop<'a>(listen: Listen, fault: LoopFault) -> Option<(Subject<'a>, Cause)> {
+    match fault {
+        LoopFault::Socket(reason) => Some((Subject::Requests(listen), Cause::Reason(reason, ""))),
+        LoopFault::Output => Some((Subject::Named(OUTPUT), Cause::Words("cannot be written"))),
+        LoopFault::NoReader => {
+            Some((
+                Subject::Named(OUTPUT),
+                Cause::Words("nobody reads it any more"),
+            ))
         }
-        DaemonFault::Server(server, status) => {
-            eprintln!(rt; "{mark}tftpd: server {server}: {status}")
-        }
-        DaemonFault::Words => eprintln!(rt; "{mark}tftpd: a server did not start: its words"),
-        DaemonFault::Memory | DaemonFault::Loop(LoopFault::Memory) => Ok(()),
+        LoopFault::Memory => None,
     }
 }
 
@@ -294,12 +333,12 @@ fn why_not(fault: StatusFault) -> &'static str {
     }
 }
 
-/// Prints why a folder takes no uploads. An absolute one is named below ROOT, as clients name files.
-fn print_uploads<R: Eprint>(rt: &R, mark: Mark, folder: &str, reason: Reason) -> io::Result<()> {
-    let note = if folder.starts_with('/') {
+/// What is noted of a folder that takes no uploads: an absolute one is named below ROOT, as clients name
+/// files.
+fn note_on(folder: &str) -> &'static str {
+    if folder.starts_with('/') {
         " (an absolute FOLDER is below ROOT, too)"
     } else {
         ""
-    };
-    eprintln!(rt; "{mark}tftpd: --uploads {}: {reason}{note}", Shown(folder))
+    }
 }

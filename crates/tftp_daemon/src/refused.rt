@@ -3,12 +3,14 @@
 //! `clap` would look at options that exclude or need one another, too, but then its contract would
 //! say nothing of the words that it refuses.
 
-ghost use Rattle.std.specs.Prelude.{◌≡◌, ◌≢◌, ◌↔◌, codes, map, option_map};
+ghost use Rattle.std.specs.Prelude.{◌≡◌, ◌↔◌, codes, false, map, option_map};
 ghost use Rattle.std.specs.Prelude.{IfNone, IfOk, IsTrue, OnSome};
 ghost use Rattle.std.specs.List.{list_any};
 ghost use Rattle.std.specs.Path.{PathStartsWith};
 ghost use Rattle.std.specs.Str.{bytes_eq};
 ghost use Rattle.clap.specs.Matches.{first_value, found_of};
+ghost use Rattle.clap.specs.Values.{kind_of};
+ghost use Rattle.tftp_arguments.specs.Fault.{is_text};
 ghost use Rattle.tftp_daemon.specs.Refused.{AddressesTogether, EndsTogether, JudgesStatus};
 ghost use Rattle.tftp_daemon.specs.Refused.{LogsTogether, ManyTogether, OneTogether};
 ghost use Rattle.tftp_daemon.specs.Refused.{ServersTogether, StandTogether, WritesTogether};
@@ -334,35 +336,37 @@ pub(crate) fn report<P: Print + Eprint>(
     ensures { IfOk result (λ status. status ≡ 2) }
 {
     match refusal {
-        Refusal::Conflict(message) => report_conflict(rt, command, message),
-        Refusal::Value(word, why) => report_invalid(rt, alloc, command, word, why),
+        Refusal::Conflict(message) => {
+            print_refusal(rt, command.error(ErrorKind::ArgumentConflict, message))
+        }
+        Refusal::Value(word, why) => print_refusal(rt, invalid_value(alloc, command, word, why)),
     }
 }
 
-/// Reports two options that are not used together.
-fn report_conflict<P: Print + Eprint>(
+/// Prints why words are refused, if there was memory for that.
+fn print_refusal<P: Print + Eprint>(
     rt: &P,
-    command: &mut Command<'_>,
-    message: &str,
+    refusal: Result<clap::Error, AllocError>,
 ) -> Result<u8, AllocError>
+    requires { IfOk refusal (λ error. is_text (kind_of error) ≡ false) }
     ensures { IfOk result (λ status. status ≡ 2) }
 {
-    let error = command.error(ErrorKind::ArgumentConflict, message)?;
-    Ok(print_usage(rt, &error))
+    match refusal {
+        Ok(error) => Ok(print_usage(rt, &error)),
+        Err(error) => Err(error),
+    }
 }
 
-/// Reports that this word is no value of an option, and why.
-fn report_invalid<P: Print + Eprint>(
-    rt: &P,
+/// The fault of a word that is no value of an option, for this reason.
+fn invalid_value(
     alloc: Global,
     command: &mut Command<'_>,
     word: Option<&str>,
     why: &str,
-) -> Result<u8, AllocError>
-    ensures { IfOk result (λ status. status ≡ 2) }
+) -> Result<clap::Error, AllocError>
+    ensures { IfOk result (λ error. is_text (kind_of error) ≡ false) }
 {
     let word = Shown(word.unwrap_or(""));
     let message = format!(in alloc; "invalid value '{word}' {why}")?;
-    let error = command.error(ErrorKind::InvalidValue, message.as_str())?;
-    Ok(print_usage(rt, &error))
+    command.error(ErrorKind::InvalidValue, message.as_str())
 }

@@ -80,7 +80,7 @@ fn add_numbers(
         ("longest", config.longest.map(u64::from)),
         ("length-memory", Some(config.length_memory)),
     ];
-    for (option, number) in numbers {
+    for (option, number) in &numbers {
         if let Some(number) = number {
             add_word(words, format!(in alloc; "--{option}={number}"))?;
         }
@@ -99,7 +99,7 @@ fn add_paths(
         ("drain", config.drain),
         ("status", config.status),
     ];
-    for (option, path) in paths {
+    for (option, path) in &paths {
         if let Some(path) = path {
             add_word(words, format!(in alloc; "--{option}={path}"))?;
         }
@@ -122,8 +122,8 @@ fn add_flags(
         ("--log", config.logs),
         ("--log-time", config.log_times),
     ];
-    for (flag, is_on) in flags {
-        if is_on {
+    for (flag, is_on) in &flags {
+        if *is_on {
             add_word(words, String::from_str(alloc, flag))?;
         }
     }

@@ -64,14 +64,33 @@ fn command_lines<P: Print + Eprint>(
 {
     let texts = Texts::new(alloc)?;
     let mut lines = Vec::new(alloc);
+    match add_lines(rt, alloc, &texts, config, &mut lines) {
+        Ok(()) => Ok(lines),
+        Err(fault) => Err(fault),
+    }
+}
+
+/// Adds the command line of each server.
+fn add_lines<P: Print + Eprint>(
+    rt: &P,
+    alloc: Global,
+    texts: &Texts,
+    config: &DaemonConfig<'_>,
+    lines: &mut Vec<Vec<String>>,
+) -> Result<(), DaemonFault>
+    requires { lines.old.items ≡ [] }
+    ensures count { OnOk result (length lines.new.items ≡ servers_of config.now) }
+    ensures named { OnOk result (AreServerLines config.now
+        (map (λ line. map string_bytes line.items) lines.new.items)) }
+{
     let Some(count) = config.servers() else {
         return Err(DaemonFault::Words);
     };
     for before in 0..count {
-        let line = command_line_of(rt, alloc, &texts, config, before + 1)?;
-        add_line(&mut lines, line)?;
+        let line = command_line_of(rt, alloc, texts, config, before + 1)?;
+        add_line(lines, line)?;
     }
-    Ok(lines)
+    Ok(())
 }
 
 /// Adds a command line.

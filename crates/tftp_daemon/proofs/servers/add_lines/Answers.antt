@@ -3,7 +3,7 @@ use Rattle.std.proofs.Common.{◌∙◌, ℕ, ◌+◌, length, map, ap}
 use Rattle.std.specs.String.{string_bytes}
 use Rattle.std.proofs.lemmas.List.{length_push}
 use Rattle.tftp_daemon.proofs.Supervising.{lines_pushed}
-use Rattle.tftp_daemon.proofs.servers.command_lines.Goals as goal
+use Rattle.tftp_daemon.proofs.servers.add_lines.Goals as goal
 
 pub loop-before-preserved : goal.loop-before-preserved
 loop-before-preserved g c =

@@ -2,7 +2,7 @@
 use Rattle.std.proofs.Common.{◌≡◌, length, map}
 use Rattle.std.specs.String.{string_bytes}
 use Rattle.tftp_daemon.specs.Supervised.{AreServerLines}
-use Rattle.tftp_daemon.proofs.servers.command_lines.Given as goal
+use Rattle.tftp_daemon.proofs.servers.add_lines.Given as goal
 
 abbrev pub invariant-loop-before : goal.invariant-loop-before
 invariant-loop-before g l = record {
