@@ -1,21 +1,20 @@
 -- What is received at the request port, and what becomes of it. For six functions.
 use Rattle.std.proofs.Common.{rules}
 use Rattle.tftp_loop.proofs.Common.{◌≡◌, ◌||◌, ◌&&◌, not, ℕ, Bool, true, false, List, [], ◌∷◌, length, take, min}
-use Rattle.tftp_loop.proofs.Common.{Option, Some, None, refl, sym, ap, subst, ◌∙◌, ◌⊎◌, inr, All, Result, Err}
+use Rattle.tftp_loop.proofs.Common.{Option, Some, None, refl, sym, ap, subst, ◌∙◌, ◌⊎◌, All, Result}
 use Rattle.tftp_loop.proofs.Common.{SourceMeaning, Endpoint, StoreMeaning, SocketEvent, Received, Quiet, Empty, Failed}
 use Rattle.tftp_loop.proofs.Common.{ServerLoop, LoopState, Timer, is_draining, No_request_found, Request_not_received}
 use Rattle.tftp_loop.proofs.Common.{Drain_begun, Work_by, loop_state, pending_in, state_of, timers_of, TransferState}
 use Rattle.tftp_loop.proofs.Common.{AreSettled, IsSettled, ReceivedFew}
-use Rattle.std.specs.Prelude.{IfErr, IsErrAnd, OnOk}
+use Rattle.std.specs.Prelude.{IfErr, OnOk}
 use Rattle.std.proofs.lemmas.Bool.{cases_lt}
 use Rattle.std.proofs.lemmas.List.{take_all}
-use Rattle.std.proofs.lemmas.Result.{err_from_is_err_and}
 use Rattle.tftp_sockets.specs.Trace.{QuietEvent, looked}
 use Rattle.tftp_sockets.specs.Trace.QuietEvent.{Drain_signalled}
 use Rattle.tftp_loop.specs.declared.serving.LoopFault.{LoopFault}
 use Rattle.tftp_loop.specs.WholeRun.{EndsBy}
 use Rattle.tftp_loop.specs.declared.drain.Drain.TheVariants.{Awaited, Begun}
-use Rattle.tftp_loop.specs.LoopStates.{FailsToPrint, StopsRunning, noted_at_end}
+use Rattle.tftp_loop.specs.LoopStates.{StopsRunning}
 use Rattle.tftp_loop.specs.LoopStates.{IsEmptied, WorksRound}
 use Rattle.tftp_loop.specs.MayWait.{AnswersPending, AreTried, HandlesReceived, HasFew, HasTriedRequests, reads_of}
 use Rattle.tftp_loop.proofs.LoopRuns.{Runs}
@@ -183,21 +182,6 @@ pub ends_by : {S F D A : Type 0} (result : Result A LoopFault) (buffer : List �
     (before events : List SocketEvent) → OnOk result ((d.left ≡ 0) ⊎ ((d.rounds ≡ 0) ⊎ IsEmptied d))
     → IfErr result (λ fault. StopsRunning fault events) → EndsBy before result (state_of buffer d events)
 ends_by result buffer d before events ends fails = search rules
-
--- what the exit of a `?` returns
-pub returned : {T E : Type 0} (r : Result T E) (fault : E) → IsErrAnd r (λ e. e ≡ fault) → r ≡ Err fault
-returned r fault h = let p = err_from_is_err_and r h in p.1 ∙ ap Err p.2
-
--- a line that could not be printed is the last event
-module _ {A : Type 0} (r : Result A LoopFault) (fault : LoopFault) (es : List SocketEvent) (is : r ≡ Err fault)
-    (fails : FailsToPrint fault es) where
-  -- a fault is noted at the end as it is
-  pub printed_last : es ≡ noted_at_end r es
-  printed_last = ap (λ (q : Result A LoopFault). noted_at_end q es) (sym (is ∙ ap Err fails.is_output))
-
-  -- and it stops the run
-  pub stops_printing : IfErr r (λ f. StopsRunning f es)
-  stops_printing = subst (λ (q : Result A LoopFault). IfErr q (λ f. StopsRunning f es)) (sym is) (inr fails)
 
 -- a server without transfers
 pub starts_settled : {S F D : Type 0} (d : ServerLoop S F D) → d.ports.items ≡ [] → IsSettled d

@@ -4,6 +4,7 @@ ghost use Rattle.std.specs.Prelude.{◌≡◌};
 ghost use Rattle.tftp_loop.specs.Hinted.{is_anywhere};
 
 use crate::serving::LoopConfig;
+use std::alloc::Global;
 use tftp_ends::Endpoint;
 use tftp_lines::{LogLine, Logged};
 
@@ -13,6 +14,8 @@ const EVERY_ADDRESS: [u8; 4] = [0, 0, 0, 0];
 /// The log of a server, on standard error.
 #[derive(Clone, Copy)]
 pub(crate) struct Log {
+    /// For the texts of its lines.
+    pub(crate) alloc: Global,
     /// Whether there is one.
     pub(crate) is_written: bool,
     /// Whether a warning begins with its priority.
@@ -24,10 +27,11 @@ pub(crate) struct Log {
 
 impl Log {
     /// The log of a server with its request port at this endpoint.
-    pub(crate) fn new(config: &LoopConfig, requests: Endpoint) -> Log
+    pub(crate) fn new(alloc: Global, config: &LoopConfig, requests: Endpoint) -> Log
         ensures { result.is_anywhere ≡ is_anywhere requests }
     {
         Log {
+            alloc,
             is_written: config.logs,
             has_priority: config.has_priority,
             is_anywhere: requests.ip == EVERY_ADDRESS,

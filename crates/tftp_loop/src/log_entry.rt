@@ -44,13 +44,7 @@ pub(crate) struct LogEntry {
 impl LogEntry {
     /// The entry of a transfer that a request opened, with its answer, at this reading of the
     /// clock.
-    pub(crate) fn new(
-        alloc: Global,
-        log: Log,
-        request: Datagram<'_>,
-        answer: &[u8],
-        opened_at: u64,
-    ) -> LogEntry
+    pub(crate) fn new(log: Log, request: Datagram<'_>, answer: &[u8], opened_at: u64) -> LogEntry
         ensures log { result.log ≡ log }
         ensures first { result.has_progressed ≡ false }
     {
@@ -58,14 +52,14 @@ impl LogEntry {
             log,
             peer: request.from,
             direction: direction_asked(request.bytes),
-            request: shown(alloc, request.bytes),
-            answer: answer_shown(alloc, log, answer),
+            request: shown(log.alloc, request.bytes),
+            answer: answer_shown(log, answer),
             length: length_stated(answer),
             opened_at,
             has_progressed: false,
             bytes: data_length(answer),
             again: Cell::new(0),
-            error: String::new(alloc),
+            error: String::new(log.alloc),
             unsent: Cell::new(None),
         }
     }
@@ -104,9 +98,11 @@ impl LogEntry {
         self.bytes = self.bytes.saturating_add(data_length(datagram));
     }
 
-    /// Stores why the system refused to send a datagram.
-    pub(crate) fn keep_unsent(&self, reason: Reason) {
-        self.unsent.set(Some(reason));
+    /// Stores why the system refused to send a datagram, if it did.
+    pub(crate) fn keep_unsent(&self, sent: Result<(), Reason>) {
+        if let Err(reason) = sent {
+            self.unsent.set(Some(reason));
+        }
     }
 
     /// The request that opened the transfer.
@@ -218,11 +214,11 @@ pub(crate) fn shown(alloc: Global, bytes: &[u8]) -> String {
 }
 
 /// The line of an answer, if there is a log.
-fn answer_shown(alloc: Global, log: Log, answer: &[u8]) -> String {
+fn answer_shown(log: Log, answer: &[u8]) -> String {
     if log.is_written {
-        shown(alloc, answer)
+        shown(log.alloc, answer)
     } else {
-        String::new(alloc)
+        String::new(log.alloc)
     }
 }
 

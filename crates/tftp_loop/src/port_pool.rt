@@ -1,6 +1,6 @@
 //! The ports that transfers are bound to, and the order in which they are used.
 
-ghost use Rattle.std.specs.Prelude.{◌≡◌, IfOk, IfSome, IsSome, None, Some, option_map};
+ghost use Rattle.std.specs.Prelude.{◌≡◌, IfOk, IfSome, IsSome, Some};
 ghost use Rattle.tftp_sockets.specs.Bound.{IsBoundTo};
 ghost use Rattle.tftp_loop.specs.PortOrder.{HasPorts, IsOneOf, Mixes, UsesNext};
 ghost use Rattle.tftp_loop.specs.declared.port_order.PortOrder.{PortOrder};
@@ -39,6 +39,7 @@ impl Model for PortPool {
 impl PortPool {
     /// The ports at this address: those of the range in a random order, or those that the system
     /// chooses. It fails if the system gives no random bytes, or when out of memory.
+    #[tactic(auto, using(crate::proofs::PoolLemmas::order_within))]
     pub(crate) fn new<N: ServerUdp>(
         net: &N,
         alloc: Global,
@@ -47,12 +48,21 @@ impl PortPool {
     ) -> io::Result<PortPool>
         ensures { IfOk result (λ pool. pool ≡ record { ip = ip; range = range }) }
     {
-        let order = order_of(net, alloc, range)?;
-        Ok(PortPool {
-            ip,
-            order,
-            bind_error: None,
-        })
+        match range {
+            Some(range) => match PortOrder::new(net, alloc, range) {
+                Ok(order) => Ok(PortPool {
+                    ip,
+                    order: Some(order),
+                    bind_error: None,
+                }),
+                Err(error) => Err(error),
+            },
+            None => Ok(PortPool {
+                ip,
+                order: None,
+                bind_error: None,
+            }),
+        }
     }
 
     /// The most transfers that have a port each at once, of so many.
@@ -87,24 +97,6 @@ impl PortPool {
     /// Why the newest bind failed, if one did.
     pub(crate) fn bind_error(&self) -> Option<Reason> {
         self.bind_error
-    }
-}
-
-/// The order of the ports of transfers, if they are to come from a range.
-fn order_of<N: ServerUdp>(
-    net: &N,
-    alloc: Global,
-    range: Option<PortRange>,
-) -> io::Result<Option<PortOrder>>
-    ensures range { IfOk result (λ order. option_map (λ o. o.range) order ≡ range) }
-    ensures ports { IfOk result (λ order. IfSome order HasPorts) }
-{
-    match range {
-        Some(range) => match PortOrder::new(net, alloc, range) {
-            Ok(order) => Ok(Some(order)),
-            Err(error) => Err(error),
-        },
-        None => Ok(None),
     }
 }
 

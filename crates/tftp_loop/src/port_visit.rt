@@ -224,8 +224,7 @@ impl<N: ServerUdp, S: Store> PortVisit<'_, N, S> {
         };
         let answer = self.server.bytes_of(tid, outgoing).unwrap_or_default();
         let sent = reply(self.net, &socket.udp, step.to, answer);
-        keep_unsent(&socket.log_entry, sent);
-        add_step(&mut socket.log_entry, bytes, &step, answer);
+        add_step(&mut socket.log_entry, bytes, &step, answer, sent);
         note_step(self.port, self.now, &step);
         work_after(self.server, self.port, &step, self.active);
         status_of(&step)
@@ -255,27 +254,27 @@ impl<N: ServerUdp, S: Store> PortVisit<'_, N, S> {
     }
 }
 
-/// Adds a datagram, its step and its answer to the log entry, if there is a log.
-fn add_step(log_entry: &mut Option<LogEntry>, received: &[u8], step: &Step, answer: &[u8]) {
+/// Adds a datagram, its step and its answer to the log entry, if there is one, and why the system
+/// refused to send the answer, if it did.
+fn add_step(
+    log_entry: &mut Option<LogEntry>,
+    received: &[u8],
+    step: &Step,
+    answer: &[u8],
+    sent: Result<(), Reason>,
+) {
     if let Some(entry) = log_entry {
+        entry.keep_unsent(sent);
         entry.add(received, step, answer);
     }
 }
 
-/// Counts the datagram of a timeout's step, if there is a log.
-fn count_again(log_entry: &Option<LogEntry>, step: &Step) {
+/// Counts the datagram of a timeout's step, if there is a log entry, and stores why the system
+/// refused to send it, if it did.
+fn count_again(log_entry: &Option<LogEntry>, step: &Step, sent: Result<(), Reason>) {
     if let Some(entry) = log_entry {
+        entry.keep_unsent(sent);
         entry.count_again(step);
-    }
-}
-
-/// Stores for the log, if there is one, why the system refused to send a datagram.
-fn keep_unsent(log_entry: &Option<LogEntry>, sent: Result<(), Reason>) {
-    let Err(reason) = sent else {
-        return;
-    };
-    if let Some(entry) = log_entry {
-        entry.keep_unsent(reason);
     }
 }
 
@@ -358,7 +357,6 @@ fn time_out<N: ServerUdp, S: Store>(
     };
     let answer = server.bytes_of(tid, outgoing).unwrap_or_default();
     let sent = reply(net, udp, step.to, answer);
-    keep_unsent(log_entry, sent);
-    count_again(log_entry, &step);
+    count_again(log_entry, &step, sent);
     Some(step)
 }

@@ -11,7 +11,6 @@ use crate::log::Log;
 use crate::log_entry::{LogEntry, shown};
 use crate::serving::{LoopConfig, LoopFault};
 use crate::transfer_port::TransferPort;
-use std::alloc::Global;
 use tftp_ends::{ErrorReply, Outcome, Record, Side};
 use tftp_lines::{LogLine, Lost, Printed, Reason, RequestLine};
 use tftp_server::Server;
@@ -30,34 +29,6 @@ pub(crate) fn log_drain<E: Eprint>(rt: &E, log: Log, count: usize) {
     if log.is_written {
         let _ = eprintln!(rt; "draining: {count} transfers open");
     }
-}
-
-/// Logs a datagram that opened no transfer. `reason` is why its name or a file call was refused, if
-/// one was.
-pub(crate) fn log_unopened<E: Eprint>(
-    rt: &E,
-    alloc: Global,
-    log: Log,
-    datagram: Datagram<'_>,
-    answer: &[u8],
-    reason: Option<Reason>,
-) {
-    let shown_request = shown(alloc, datagram.bytes);
-    let shown_answer = shown(alloc, answer);
-    let request = RequestLine {
-        peer: datagram.from,
-        line: shown_request.as_str(),
-    };
-    let line = if answer.is_empty() {
-        LogLine::Ignored { request }
-    } else {
-        LogLine::Refused {
-            request,
-            answer: shown_answer.as_str(),
-            reason,
-        }
-    };
-    log.write(rt, line);
 }
 
 /// What happened by this answer to a datagram that opened no transfer.
@@ -98,7 +69,6 @@ pub(crate) struct Opening<'a> {
 /// its close, if there is a log or the device counts.
 pub(crate) fn log_opened<N: ServerUdp + Eprint>(
     net: &N,
-    alloc: Global,
     log: Log,
     port: u16,
     datagram: Datagram<'_>,
@@ -107,11 +77,12 @@ pub(crate) fn log_opened<N: ServerUdp + Eprint>(
     if !log.is_written && !net.is_counted() {
         return None;
     }
-    let entry = LogEntry::new(alloc, log, datagram, opening.answer, opening.reading);
+    let entry = LogEntry::new(log, datagram, opening.answer, opening.reading);
     if log.is_written {
         log.write(net, entry.opened(port));
-        if let Err(reason) = opening.sent {
-            log_unsent_answer(net, alloc, log, port, datagram, reason);
+        entry.keep_unsent(opening.sent);
+        if let Some(line) = entry.take_unsent(port) {
+            log.write(net, line);
         }
     }
     Some(entry)
@@ -130,53 +101,45 @@ pub(crate) struct Refusal<'a> {
 /// Logs a datagram that opened no transfer, with its answer from this port.
 pub(crate) fn log_refused<E: Eprint>(
     rt: &E,
-    alloc: Global,
     log: Log,
     port: u16,
     datagram: Datagram<'_>,
     refusal: Refusal<'_>,
 ) {
-    log_unopened(rt, alloc, log, datagram, refusal.answer, refusal.reason);
+    let shown_request = shown(log.alloc, datagram.bytes);
+    let shown_answer = shown(log.alloc, refusal.answer);
+    let request = RequestLine {
+        peer: datagram.from,
+        line: shown_request.as_str(),
+    };
+    let line = if refusal.answer.is_empty() {
+        LogLine::Ignored { request }
+    } else {
+        LogLine::Refused {
+            request,
+            answer: shown_answer.as_str(),
+            reason: refusal.reason,
+        }
+    };
+    log.write(rt, line);
     if let Err(reason) = refusal.sent {
-        log_unsent_answer(rt, alloc, log, port, datagram, reason);
+        let line = LogLine::Unsent {
+            port,
+            request,
+            reason,
+        };
+        log.write(rt, line);
     }
 }
 
 /// Logs a lost request.
-pub(crate) fn log_lost<E: Eprint>(
-    rt: &E,
-    alloc: Global,
-    log: Log,
-    datagram: Datagram<'_>,
-    lost: Lost,
-) {
-    let shown_request = shown(alloc, datagram.bytes);
+pub(crate) fn log_lost<E: Eprint>(rt: &E, log: Log, datagram: Datagram<'_>, lost: Lost) {
+    let shown_request = shown(log.alloc, datagram.bytes);
     let request = RequestLine {
         peer: datagram.from,
         line: shown_request.as_str(),
     };
     let line = LogLine::Lost { request, lost };
-    log.write(rt, line);
-}
-
-/// Logs the answer to a datagram of the request port that the system refused to send.
-pub(crate) fn log_unsent_answer<E: Eprint>(
-    rt: &E,
-    alloc: Global,
-    log: Log,
-    port: u16,
-    datagram: Datagram<'_>,
-    reason: Reason,
-) {
-    let shown_request = shown(alloc, datagram.bytes);
-    let line = LogLine::Unsent {
-        port,
-        request: RequestLine {
-            peer: datagram.from,
-            line: shown_request.as_str(),
-        },
-        reason,
-    };
     log.write(rt, line);
 }
 

@@ -36,8 +36,7 @@ use crate::report::{
 use crate::server_loop::ServerLoop;
 use crate::sockets::Sockets;
 use crate::transfer_port::{TransferPort, TransferSocket, age_limit, next_look, open_of, reply};
-use std::alloc::Global;
-use tftp_ends::{DEFAULT_INTERVAL, Endpoint, ErrorReply};
+use tftp_ends::{DEFAULT_INTERVAL, Endpoint, ErrorReply, Record};
 use tftp_lines::{Lost, Reason};
 use tftp_server::{Admission, Opened, Server, Store};
 use tftp_sockets::{Entry, Load, Port, Receipt, ServerSocket, ServerUdp, deadline};
@@ -263,12 +262,15 @@ impl<S: ServedStore<Reason> + Drop> ServerLoop<S> {
         ensures file { N.file net.new ≡ N.file net.old }
     {
         match action {
-            RequestAction::Ignore => self.refuse(net, datagram, None),
-            RequestAction::NoMemory => lose_for_memory(net, self.alloc, self.log, datagram),
+            RequestAction::Ignore => refuse(net, &self.sockets.requests, self.log, datagram, None),
+            RequestAction::NoMemory => lose_for_memory(net, self.log, datagram),
             RequestAction::TooMany(most) => {
-                lose(net, self.alloc, self.log, datagram, Lost::Client(most));
+                lose(net, self.log, datagram, Lost::Client(most));
             }
-            RequestAction::Refuse(reply) => self.refuse(net, datagram, reply),
+            RequestAction::Refuse(reply) => {
+                let requests = &self.sockets.requests;
+                refuse(net, requests, self.log, datagram, reply);
+            }
             RequestAction::Open(admission) => self.open_request(net, datagram, admission),
         }
     }
@@ -320,11 +322,11 @@ impl<S: ServedStore<Reason> + Drop> ServerLoop<S> {
     {
         let Some(bound) = self.sockets.port_for(net, &admission) else {
             let lost = Lost::Port(self.sockets.bind_error());
-            lose(net, self.alloc, self.log, datagram, lost);
+            lose(net, self.log, datagram, lost);
             return;
         };
         if is_taken(&self.sockets, &self.server, bound.port()) {
-            lose(net, self.alloc, self.log, datagram, Lost::Port(None));
+            lose(net, self.log, datagram, Lost::Port(None));
             return;
         }
         self.open_at(net, datagram, admission, bound);
@@ -368,7 +370,7 @@ impl<S: ServedStore<Reason> + Drop> ServerLoop<S> {
         let reason = self.server.store().take_reason();
         match opened {
             Ok(opened) => self.answer_opened(net, datagram, bound, opened, reason),
-            Err(_) => lose_for_memory(net, self.alloc, self.log, datagram),
+            Err(_) => lose_for_memory(net, self.log, datagram),
         }
     }
 
@@ -395,58 +397,10 @@ impl<S: ServedStore<Reason> + Drop> ServerLoop<S> {
     {
         match opened.tid {
             Some(_) => self.begin(net, datagram, bound, opened.to),
-            None => self.answer(net, datagram, opened.to, self.out.as_slice(), reason),
-        }
-    }
-
-    /// Sends this answer, if any, to a datagram that opens no transfer.
-    fn refuse<N: ServerUdp + Eprint>(
-        &self,
-        net: &mut N,
-        datagram: Datagram<'_>,
-        reply: Option<ErrorReply>,
-    )
-        ensures events { N.log net.new ≡ replied self.now.sockets.requests.port
-            (refused_to datagram.entry.from reply) (refused_bytes reply) (N.log net.old) }
-        ensures told { N.told net.new
-            ≡ and_told (unopened_entry (refused_bytes reply)) (N.told net.old) }
-        ensures file { N.file net.new ≡ N.file net.old }
-    {
-        match reply {
-            Some(reply) => {
-                let answer = reply.datagram();
-                let reason = reason_unasked(answer);
-                self.answer(net, datagram, Some(datagram.from), answer, reason);
+            None => {
+                let (requests, out) = (&self.sockets.requests, self.out.as_slice());
+                answer(net, requests, self.log, datagram, opened.to, out, reason);
             }
-            None => self.answer(net, datagram, None, &[], None),
-        }
-    }
-
-    /// Sends the answer, if there is one, to a datagram that opened no transfer, from the request
-    /// port. `reason` is why its name or a file call was refused, if one was.
-    fn answer<N: ServerUdp + Eprint>(
-        &self,
-        net: &mut N,
-        datagram: Datagram<'_>,
-        to: Option<Endpoint>,
-        answer: &[u8],
-        reason: Option<Reason>,
-    )
-        ensures answers { HasAnswered datagram.entry.from (record { tid = None; to = to })
-            answer.now self.now (N.log net.old) self.now (N.log net.new) }
-        ensures told { N.told net.new ≡ and_told (unopened_entry answer.now) (N.told net.old) }
-        ensures file { N.file net.new ≡ N.file net.old }
-    {
-        let sent = reply(net, &self.sockets.requests, to, answer);
-        net.count(unopened_entry(answer));
-        if self.log.is_written {
-            let port = self.sockets.requests.port();
-            let refusal = Refusal {
-                answer,
-                reason,
-                sent,
-            };
-            log_refused(&*net, self.alloc, self.log, port, datagram, refusal);
         }
     }
 
@@ -476,7 +430,7 @@ impl<S: ServedStore<Reason> + Drop> ServerLoop<S> {
             reading: self.sockets.watch.reading,
             sent,
         };
-        let log_entry = log_opened(&*net, self.alloc, self.log, bound.port(), datagram, opening);
+        let log_entry = log_opened(&*net, self.log, bound.port(), datagram, opening);
         let port = self.port_of(bound, datagram.from, log_entry);
         self.ports.push_reserved(port);
     }
@@ -497,7 +451,7 @@ impl<S: ServedStore<Reason> + Drop> ServerLoop<S> {
         let mut udp = bound;
         self.sockets.register(&mut udp);
         let tid = udp.port();
-        let interval = interval_of(&self.server, tid);
+        let (interval, file_work_limit) = pace_of(&self.server, tid);
         let times_out_at = deadline(self.sockets.watch.now, self.backoff.wait(interval, 0));
         Port {
             tid,
@@ -514,43 +468,84 @@ impl<S: ServedStore<Reason> + Drop> ServerLoop<S> {
                 moved_at: self.sockets.watch.now,
                 received: 0,
                 age_limit: age_limit(self.sockets.watch.now, self.longest),
-                file_work_limit: file_work_limit(&self.server, tid),
+                file_work_limit,
                 log_entry,
             },
         }
     }
 }
 
-/// Notes that memory was refused for a datagram, which is lost by that.
-fn lose_for_memory<N: ServerUdp + Eprint>(
+/// Sends this answer, if any, from the request port to a datagram that opens no transfer.
+fn refuse<N: ServerUdp + Eprint>(
     net: &mut N,
-    alloc: Global,
+    requests: &ServerSocket,
     log: Log,
     datagram: Datagram<'_>,
+    reply: Option<ErrorReply>,
 )
+    ensures events { N.log net.new ≡ replied requests.now.port
+        (refused_to datagram.entry.from reply) (refused_bytes reply) (N.log net.old) }
+    ensures told { N.told net.new
+        ≡ and_told (unopened_entry (refused_bytes reply)) (N.told net.old) }
+    ensures file { N.file net.new ≡ N.file net.old }
+{
+    match reply {
+        Some(reply) => {
+            let bytes = reply.datagram();
+            let reason = reason_unasked(bytes);
+            let to = Some(datagram.from);
+            answer(net, requests, log, datagram, to, bytes, reason);
+        }
+        None => answer(net, requests, log, datagram, None, &[], None),
+    }
+}
+
+/// Sends the answer, if there is one, to a datagram that opened no transfer, from the request port.
+/// `reason` is why its name or a file call was refused, if one was.
+fn answer<N: ServerUdp + Eprint>(
+    net: &mut N,
+    requests: &ServerSocket,
+    log: Log,
+    datagram: Datagram<'_>,
+    to: Option<Endpoint>,
+    answer: &[u8],
+    reason: Option<Reason>,
+)
+    ensures events { N.log net.new ≡ replied requests.now.port to answer.now (N.log net.old) }
+    ensures told { N.told net.new ≡ and_told (unopened_entry answer.now) (N.told net.old) }
+    ensures file { N.file net.new ≡ N.file net.old }
+{
+    let sent = reply(net, requests, to, answer);
+    net.count(unopened_entry(answer));
+    if log.is_written {
+        let refusal = Refusal {
+            answer,
+            reason,
+            sent,
+        };
+        log_refused(&*net, log, requests.port(), datagram, refusal);
+    }
+}
+
+/// Notes that memory was refused for a datagram, which is lost by that.
+fn lose_for_memory<N: ServerUdp + Eprint>(net: &mut N, log: Log, datagram: Datagram<'_>)
     ensures events { N.log net.new ≡ Quiet Out_of_memory ∷ N.log net.old }
     ensures told { N.told net.new ≡ and_told Entry.Lost (N.told net.old) }
     ensures file { N.file net.new ≡ N.file net.old }
 {
     net.out_of_memory();
-    lose(net, alloc, log, datagram, Lost::Memory);
+    lose(net, log, datagram, Lost::Memory);
 }
 
 /// Counts a lost request, and logs it, if there is a log.
-fn lose<N: ServerUdp + Eprint>(
-    net: &mut N,
-    alloc: Global,
-    log: Log,
-    datagram: Datagram<'_>,
-    lost: Lost,
-)
+fn lose<N: ServerUdp + Eprint>(net: &mut N, log: Log, datagram: Datagram<'_>, lost: Lost)
     ensures events { N.log net.new ≡ N.log net.old }
     ensures told { N.told net.new ≡ and_told Entry.Lost (N.told net.old) }
     ensures file { N.file net.new ≡ N.file net.old }
 {
     net.count(Entry::Lost);
     if log.is_written {
-        log_lost(&*net, alloc, log, datagram, lost);
+        log_lost(&*net, log, datagram, lost);
     }
 }
 
@@ -590,25 +585,25 @@ fn set_store<S: ServedStore<Reason> + Drop>(
     store.set_longest(longest);
 }
 
-/// The seconds without progress before a timeout of a transfer.
-fn interval_of<S: Store>(server: &Server<S>, tid: u16) -> u8
-    ensures { result ≡ interval_at (at tid server.now.held) }
+/// The seconds without progress before a timeout of a transfer, and the number of active transfers
+/// up to which its file works beside theirs.
+fn pace_of<S: Store>(server: &Server<S>, tid: u16) -> (u8, usize)
+    ensures { result.0 ≡ interval_at (at tid server.now.held) }
 {
     match server.record(tid) {
-        Some(record) => record.interval(),
-        None => DEFAULT_INTERVAL,
+        Some(record) => (record.interval(), file_work_limit(&record)),
+        None => (DEFAULT_INTERVAL, usize::MAX),
     }
 }
 
 /// The number of active transfers up to which this one's file reads ahead: as many as have a block
 /// each in `MOST_AHEAD` bytes. A file that is written has no bound: its writes go on beside others.
-fn file_work_limit<S: Store>(server: &Server<S>, tid: u16) -> usize {
-    match server.record(tid) {
-        Some(record) if record.side.is_sender() => {
-            let block = usize::from(record.size);
-            MOST_AHEAD.checked_div(block).unwrap_or(usize::MAX)
-        }
-        _ => usize::MAX,
+fn file_work_limit(record: &Record) -> usize {
+    if record.side.is_sender() {
+        let block = usize::from(record.size);
+        MOST_AHEAD.checked_div(block).unwrap_or(usize::MAX)
+    } else {
+        usize::MAX
     }
 }
 

@@ -10,7 +10,7 @@ ghost use Rattle.tftp_loop.specs.LoopStates.{AreBound, AreLong, FailsToPrint, Ha
 ghost use Rattle.tftp_loop.specs.LoopStates.{IsAtStart, IsEmptied};
 ghost use Rattle.tftp_loop.specs.LoopStates.{EndsRounds, OnlyWorks};
 ghost use Rattle.tftp_loop.specs.LoopStates.{WorksRound};
-ghost use Rattle.tftp_loop.specs.MayWait.{Finishes, HasRead, HasSlept, HasWaited, HasWoken, MayBeginWait};
+ghost use Rattle.tftp_loop.specs.MayWait.{Finishes, HasRead, HasWaited, HasWoken, MayBeginWait};
 ghost use Rattle.tftp_loop.specs.MayWait.{AwaitVisit, HasFew, WereVisited, before_visit};
 ghost use Rattle.tftp_loop.specs.MayWait.{IsSurveyOf};
 ghost use Rattle.tftp_loop.specs.MayWait.{IsSettled, IsTended};
@@ -81,11 +81,16 @@ impl Buffers {
     pub(crate) fn new(alloc: Global) -> Result<Buffers, AllocError>
         ensures { IfOk result AreLong }
     {
-        Ok(Buffers {
-            reports: Reports::new(alloc, MOST_REPORTS)?,
-            request: buffer(alloc, DATAGRAM_BUFFER)?,
-            datagram: buffer(alloc, DATAGRAM_BUFFER)?,
-        })
+        let request = buffer(alloc, DATAGRAM_BUFFER)?;
+        let datagram = buffer(alloc, DATAGRAM_BUFFER)?;
+        match Reports::new(alloc, MOST_REPORTS) {
+            Ok(reports) => Ok(Buffers {
+                reports,
+                request,
+                datagram,
+            }),
+            Err(error) => Err(error),
+        }
     }
 }
 
@@ -109,7 +114,7 @@ impl<S: ServedStore<Reason> + Drop> ServerLoop<S> {
         ensures sockets { result.sockets ≡ sockets }
         ensures starts { IsAtStart config.now result }
     {
-        let log = Log::new(config, sockets.listening());
+        let log = Log::new(alloc, config, sockets.listening());
         ServerLoop {
             server,
             sockets,
@@ -157,7 +162,9 @@ impl<S: ServedStore<Reason> + Drop> ServerLoop<S> {
         ensures file { N.file net.new ≡ N.file net.old }
     {
         loop {
-            self.take_round(net, signal, request, datagram)?;
+            if let Err(fault) = self.take_round(net, signal, request, datagram) {
+                return Err(fault);
+            }
             if self.is_over() {
                 return Ok(());
             }
@@ -220,7 +227,9 @@ impl<S: ServedStore<Reason> + Drop> ServerLoop<S> {
         ensures file { N.file net.new ≡ N.file net.old }
     {
         self.look_at_signal(net, signal);
-        self.pass_over(net, Pass::Ready, datagram)?;
+        if let Err(fault) = self.pass_over(net, Pass::Ready, datagram) {
+            return Err(fault);
+        }
         if self.left == 0 {
             return Ok(());
         }
@@ -338,7 +347,9 @@ impl<S: ServedStore<Reason> + Drop> ServerLoop<S> {
     {
         self.active = survey.active;
         self.read_clock(net);
-        self.wait_for_ports(net, reports, survey);
+        let millis = self.millis_to_wait(survey);
+        let polls = polls_before(millis, self.active, self.sockets.polls);
+        net.wait(&mut self.sockets.poll, reports, millis, polls);
         self.wake(net, reports);
     }
 
@@ -351,18 +362,6 @@ impl<S: ServedStore<Reason> + Drop> ServerLoop<S> {
         let end = self.sockets.round_end();
         net.read_watch_within(&mut self.sockets.watch, end);
         self.sockets.limit = began.saturating_add(LONGEST_WAIT);
-    }
-
-    /// Waits until a datagram has arrived, as long as is allowed.
-    fn wait_for_ports<N: ServerUdp>(&mut self, net: &mut N, reports: &mut Reports, survey: Survey)
-        requires { IsSurveyOf self.old.ports.items survey }
-        ensures slept { HasSlept (millis_of self.old) reports.new.ports.items self.old
-            (N.log net.old) self.new (N.log net.new) }
-        ensures file { N.file net.new ≡ N.file net.old }
-    {
-        let millis = self.millis_to_wait(survey);
-        let polls = polls_before(millis, self.active, self.sockets.polls);
-        net.wait(&mut self.sockets.poll, reports, millis, polls);
     }
 
     /// Sets the deadlines of the transfers that opened, advanced or timed out before the clock was
@@ -449,7 +448,9 @@ impl<S: ServedStore<Reason> + Drop> ServerLoop<S> {
                 return Ok(());
             }
             index -= 1;
-            self.visit(net, pass, index, buffer)?;
+            if let Err(fault) = self.visit(net, pass, index, buffer) {
+                return Err(fault);
+            }
         }
         Ok(())
     }
@@ -496,7 +497,7 @@ impl<S: ServedStore<Reason> + Drop> ServerLoop<S> {
         };
         let port = &mut self.ports[index];
         let status = visit_port(&mut self.server, port, net, moment, pass, buffer);
-        log_unsent(&*net, &self.ports[index]);
+        log_unsent(&*net, port);
         if !status.is_closed() {
             return Ok(());
         }

@@ -37,8 +37,8 @@ loop-index-preserved g c =
 pub returns-then-self-eq0-clause-works : goal.returns-then-self-eq0-clause-works
 returns-then-self-eq0-clause-works g c = c.loop-index.invariant.works
 
-pub returns-in_err-visit-clause-works : goal.returns-in_err-visit-clause-works
-returns-in_err-visit-clause-works g c = grind (std_arith, common_steps, onward)
+pub returns-in-Err-clause-works : goal.returns-in-Err-clause-works
+returns-in-Err-clause-works g c = grind (std_arith, common_steps, onward)
 
 pub returns-clause-visited : goal.returns-clause-visited
 returns-clause-visited g c = grind (std_arith, common_steps)

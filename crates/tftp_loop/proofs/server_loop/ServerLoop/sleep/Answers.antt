@@ -1,5 +1,6 @@
-use Rattle.tftp_loop.proofs.Common.{arith, inl}
-use Rattle.tftp_loop.specs.MayWait.{millis_of}
+use Rattle.std.proofs.Common.{rules}
+use Rattle.tftp_loop.proofs.Common.{arith, inl, refl, ServerLoop}
+use Rattle.tftp_loop.specs.MayWait.{HasSlept, millis_of}
 use Rattle.tftp_loop.proofs.Waits.{may_wait, read_settled, slept_settled, waits_as, woken_few, woken_settled}
 use Rattle.tftp_loop.proofs.server_loop.ServerLoop.sleep.Goals as goal
 
@@ -7,9 +8,11 @@ pub returns-clause-waits : goal.returns-clause-waits
 returns-clause-waits g c =
     let read = c.read_clock.new.self in
     let millis = millis_of read in
-    let ports = c.wait_for_ports.new.reports.ports.items in
+    let ports = c.wait.new.reports.ports.items in
     let reads = c.read_clock.ensures.reads in
-    let slept = c.wait_for_ports.ensures.slept in
+    let after : ServerLoop _ _ _ = record read { sockets = record read.sockets { poll = c.wait.new.poll } } in
+    let slept : HasSlept millis ports read (g.N.Udp.log c.read_clock.new.net) after (g.N.Udp.log c.wait.new.self) =
+    record { rest = refl; rounds = refl; room = λ room. room; events = search rules } in
     let woken = c.wake.ensures.woken in
     let may = c.requires.may in
     let own = may.tended in

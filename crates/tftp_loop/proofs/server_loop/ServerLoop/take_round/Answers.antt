@@ -1,14 +1,14 @@
 use Rattle.std.proofs.Common.{arith as std_arith}
 use Rattle.std.proofs.lemmas.Grind.{common_steps}
-use Rattle.tftp_loop.proofs.Common.{arith, ServerLoop}
+use Rattle.tftp_loop.proofs.Common.{arith}
 use Rattle.std.proofs.lemmas.Result.{on_ok_weaker}
 use Rattle.tftp_loop.proofs.LoopStays.{work_keeps}
 use Rattle.tftp_loop.proofs.Receipts.{from_state, to_state}
 use Rattle.tftp_loop.proofs.RunLemmas.{onward}
 use Rattle.tftp_loop.proofs.server_loop.ServerLoop.take_round.Goals as goal
 
-pub returns-in_err-pass_over-clause-works : goal.returns-in_err-pass_over-clause-works
-returns-in_err-pass_over-clause-works g c = grind (std_arith, common_steps, onward)
+pub returns-in-Err-clause-works : goal.returns-in-Err-clause-works
+returns-in-Err-clause-works g c = grind (std_arith, common_steps, onward)
 
 pub returns-then-self-eq0-clause-works : goal.returns-then-self-eq0-clause-works
 returns-then-self-eq0-clause-works g c = grind (std_arith, common_steps, onward)
@@ -30,7 +30,7 @@ returns-clause-tended g c =
     record {
       settled = c.pass_over-2.ensures.settled;
       read =
-          λ k d l h. timed.read (asked.read (λ k d h. (c.in_ok-pass_over.ensures.visited (omega (arith, some)) k d
+          λ k d l h. timed.read (asked.read (λ k d h. (c.in_default.ensures.visited (omega (arith, some)) k d
           (omega arith) h).0)) k d h;
       timed = due left;
       requests =
@@ -47,4 +47,4 @@ pub pass_over-requires-2-clause-few : goal.pass_over-requires-2-clause-few
 pass_over-requires-2-clause-few g c =
     let some = c.if-self-eq0.false in
     c.take_request.ensures.few
-    (λ k d h. (c.in_ok-pass_over.ensures.visited (omega (arith, some)) k d (omega arith) h).1)
+    (λ k d h. (c.in_default.ensures.visited (omega (arith, some)) k d (omega arith) h).1)

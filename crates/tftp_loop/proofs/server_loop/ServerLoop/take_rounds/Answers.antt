@@ -1,13 +1,13 @@
 use Rattle.std.proofs.lemmas.Grind.{common_steps}
 use Rattle.std.proofs.Common.{arith}
-use Rattle.tftp_loop.proofs.Common.{refl, ap, inl, state_of, Start}
+use Rattle.tftp_loop.proofs.Common.{refl, ap, inl, inr, state_of, Start}
 use Rattle.tftp_loop.proofs.LoopRuns.{runs_as}
-use Rattle.tftp_loop.proofs.Receipts.{found_it, found_nothing, printed_last, returned, stops_printing}
+use Rattle.tftp_loop.proofs.Receipts.{found_it, found_nothing}
 use Rattle.tftp_loop.proofs.RunLemmas.{idle, onward}
 use Rattle.tftp_loop.proofs.server_loop.ServerLoop.take_rounds.Goals as goal
 
-pub loop-self-init : goal.loop-self-init
-loop-self-init g c = record {
+pub loop-fault-init : goal.loop-fault-init
+loop-fault-init g c = record {
   serves = Start;
   settled = c.requires.settled;
   few = c.requires.few;
@@ -16,12 +16,12 @@ loop-self-init g c = record {
   room = c.requires.room;
 }
 
-pub loop-self-preserved : goal.loop-self-preserved
-loop-self-preserved g c =
+pub loop-fault-preserved : goal.loop-fault-preserved
+loop-fault-preserved g c =
     let same = found_nothing c.has_no_reader.result _ _ _ c.if-has_no_reader.false c.has_no_reader.ensures.noted in
     record {
       serves =
-          onward c.loop-self.invariant.serves (onward (runs_as g.S.Store.meaning g.S.Source.Source.meaning
+          onward c.loop-fault.invariant.serves (onward (runs_as g.S.Store.meaning g.S.Source.Source.meaning
           c.take_round.ensures.works) (onward (c.wait.ensures.waits.serves c.take_round.new.request) (idle
           (ap (state_of c.take_round.new.request c.wait.new.self) same))));
       settled = c.wait.ensures.waits.settled;
@@ -31,24 +31,22 @@ loop-self-preserved g c =
       room = c.wait.ensures.waits.room c.take_round.ensures.room;
     }
 
-pub returns-in_err-take_round-clause-serves : goal.returns-in_err-take_round-clause-serves
-returns-in_err-take_round-clause-serves g c =
-    let fault = c.in_err-take_round.field-0.0 in
-    let is = returned c.from_residual.result fault c.from_residual.ensures.1 in
+pub returns-in-Err-clause-serves : goal.returns-in-Err-clause-serves
+returns-in-Err-clause-serves g c =
     record {
       served = g.N.Udp.log c.take_round.new.net;
       serves =
-          onward c.loop-self.invariant.serves (runs_as g.S.Store.meaning g.S.Source.Source.meaning
+          onward c.loop-fault.invariant.serves (runs_as g.S.Store.meaning g.S.Source.Source.meaning
           c.take_round.ensures.works);
-      noted = printed_last c.from_residual.result fault _ is c.in_err-take_round.ensures.fault;
-      fault = stops_printing c.from_residual.result fault _ is c.in_err-take_round.ensures.fault;
+      noted = rw (c.in-Err.ensures.fault.is_output) refl;
+      fault = inr c.in-Err.ensures.fault;
     }
 
 pub returns-then-is_over-clause-serves : goal.returns-then-is_over-clause-serves
 returns-then-is_over-clause-serves g c = record {
   served = g.N.Udp.log c.take_round.new.net;
   serves =
-      onward c.loop-self.invariant.serves (runs_as g.S.Store.meaning g.S.Source.Source.meaning
+      onward c.loop-fault.invariant.serves (runs_as g.S.Store.meaning g.S.Source.Source.meaning
       c.take_round.ensures.works);
   noted = refl;
   fault = tt;
@@ -58,7 +56,7 @@ pub returns-then-has_no_reader-clause-serves : goal.returns-then-has_no_reader-c
 returns-then-has_no_reader-clause-serves g c = record {
   served = g.N.Udp.log c.wait.new.net;
   serves =
-      onward c.loop-self.invariant.serves (onward (runs_as g.S.Store.meaning g.S.Source.Source.meaning
+      onward c.loop-fault.invariant.serves (onward (runs_as g.S.Store.meaning g.S.Source.Source.meaning
       c.take_round.ensures.works) (c.wait.ensures.waits.serves c.take_round.new.request));
   noted = found_it c.has_no_reader.result _ _ _ c.if-has_no_reader.true c.has_no_reader.ensures.noted;
   fault = inl refl;

@@ -4,8 +4,8 @@ use Rattle.tftp_loop.specs.MayWait.{HasFew}
 use Rattle.tftp_loop.proofs.server_loop.ServerLoop.take_rounds.Given as goal
 
 -- the run so far, and that a round may follow
-abbrev pub invariant-loop-self : goal.invariant-loop-self
-invariant-loop-self g l =
+abbrev pub invariant-loop-fault : goal.invariant-loop-fault
+invariant-loop-fault g l =
     record {
       serves : ServesRounds g.S.Store.meaning g.S.Source.Source.meaning l.fn.request l.fn.self (g.N.Udp.log l.fn.net) l.request
           l.self (g.N.Udp.log l.net);
@@ -16,5 +16,5 @@ invariant-loop-self g l =
       room : HasRoom l.self;
     }
 
-abbrev pub decreases-loop-self : goal.decreases-loop-self
-decreases-loop-self g l = l.self.rounds
+abbrev pub decreases-loop-fault : goal.decreases-loop-fault
+decreases-loop-fault g l = l.self.rounds
