@@ -23,3 +23,12 @@ returns-clause-event c =
     draws_timeout w c.next_word-kind.result c.next_word-index.result c.records-records.result.now _
     c.records-records.ensures.records some high
     ∙ (ap (λ (n : ℕ). drawn w n c.next_word-index.result) kind ∙ ap (λ (n : ℕ). drawn w (pcg32 g).0 n) index)
+
+pub returns-then-kind-lt6-clause-event : goal.returns-then-kind-lt6-clause-event
+returns-then-kind-lt6-clause-event c = grind (arith, common_steps)
+
+pub returns-then-kind-lt6-clause-words : goal.returns-then-kind-lt6-clause-words
+returns-then-kind-lt6-clause-words c = grind (arith, common_steps)
+
+pub returns-clause-words : goal.returns-clause-words
+returns-clause-words c = grind (arith, common_steps)
