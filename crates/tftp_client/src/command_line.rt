@@ -156,8 +156,10 @@ fn report_address<'a, P: Print + Eprint>(
 {
     let address = matches.get_str("ADDR:PORT").unwrap_or("");
     let mut command = subcommand(kind_of(word), alloc, texts)?;
-    let error = invalid_address(alloc, &mut command, address)?;
-    Ok(print_usage(rt, &error))
+    match invalid_address(alloc, &mut command, address) {
+        Ok(error) => Ok(print_usage(rt, &error)),
+        Err(error) => Err(error),
+    }
 }
 
 /// A subcommand of its own, with the words that it is called by in its usage.

@@ -78,19 +78,20 @@ impl fmt::Display for LocalError {
     ghost output = { λ error. Some (local_error_text error) };
 
     fn fmt<W: fmt::Write>(&self, f: &mut fmt::Formatter<W>) -> fmt::Result {
-        match self {
-            LocalError::EmptyPath => f.write_str("the path is empty"),
-            LocalError::Exists => f.write_str("exists (--replace replaces it)"),
-            LocalError::NotAFile => f.write_str("not a file"),
-            LocalError::PartIsAFolder => f.write_str("a folder has this name with .part"),
-            LocalError::PartReplaced => f.write_str("another file has this name with .part"),
-            LocalError::LengthUnknown => f.write_str("length unknown"),
-            LocalError::Unreadable => f.write_str("cannot be read"),
-            LocalError::TooLong => f.write_str("file too large"),
+        let words = match self {
             LocalError::System(error) => {
                 let reason = reason_of(error);
-                write!(f, "{reason}")
+                return write!(f, "{reason}");
             }
-        }
+            LocalError::EmptyPath => "the path is empty",
+            LocalError::Exists => "exists (--replace replaces it)",
+            LocalError::NotAFile => "not a file",
+            LocalError::PartIsAFolder => "a folder has this name with .part",
+            LocalError::PartReplaced => "another file has this name with .part",
+            LocalError::LengthUnknown => "length unknown",
+            LocalError::Unreadable => "cannot be read",
+            LocalError::TooLong => "file too large",
+        };
+        f.write_str(words)
     }
 }

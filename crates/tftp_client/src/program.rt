@@ -13,7 +13,7 @@ use crate::local::{FileOf, LocalFile, SourceOf};
 use crate::transfer::{Failure, Job, MAX_WAITS, transfer};
 use std::alloc::Global;
 use std::convert::AsStr;
-use std::io::{self, IsTerminal};
+use std::io::IsTerminal;
 use std::net::Net;
 use std::rt::Runtime;
 use tftp_arguments::{own_words, print_no_memory, print_words_fault};
@@ -127,20 +127,16 @@ fn run_job<E: Eprint, N: ClientUdp, D: Disk>(
     }
 }
 
-/// Reports a failure, and returns the status. It is the same if standard error cannot be written.
+/// Prints how a transfer failed, and its cause, and returns the status. It is the same if standard
+/// error cannot be written.
 fn report<R: Eprint>(rt: &R, failure: &Failure, job: &Job<'_>) -> u8
     ensures status { result ≡ status_of failure.now.end }
     ensures fails { (1 ≤ result) × (result ≤ 2) }
 {
-    let _ = print_failure(rt, failure, job);
-    failure.end.status()
-}
-
-/// Prints how a transfer failed, and its cause.
-fn print_failure<R: Eprint>(rt: &R, failure: &Failure, job: &Job<'_>) -> io::Result<()> {
-    rt.eprintln(failure.end)?;
-    match &failure.cause {
-        Some(cause) => rt.eprintln(CauseLine { job, cause }),
-        None => Ok(()),
+    if rt.eprintln(failure.end).is_ok()
+        && let Some(cause) = &failure.cause
+    {
+        let _ = rt.eprintln(CauseLine { job, cause });
     }
+    failure.end.status()
 }
