@@ -6,7 +6,7 @@ with what is there (tools/manifest.py). Behind `rt ci` the programs are put into
 (tools/shipped.py), and each check is run over them, with a limit. Its last line counts the rows that it ran and
 skipped, which are as many as the manifest has. `rt ci` tries the wrong bodies in must-fail/, and five others, which the
 commit chooses. It fails here also where one is bad, where fewer were refused, or fewer crates proved, than the manifest
-has.
+has. Those in each-gate/ are tried behind it (tools/wrong_bodies.py).
 
 What was skipped, and what ran twice (tests/conftest.py), stands at the end. With REQUIRE_ALL=1 in the environment
 what was skipped is a failure, but where LACKING names what this check needs and this host has not (.ci/packages). The
@@ -132,6 +132,8 @@ def main() -> int:
     passed, failed = map(int, counts[-1].groups()) if counts else (0, 1)
     if not failed:
         gate.faults += faults_of(lines, passed, wanted, len(few)) + [f"rt ci: status {status}"] * bool(status)
+        if wrong_bodies.bodies_in(wrong_bodies.EACH):
+            gate.try_to("tools/wrong_bodies.py", ["tools/wrong_bodies.py", "--in-part"], 3_600)
         gate.try_to("tools/shipped.py", ["tools/shipped.py"], 3_600)
         for check in checks:
             gate.check(check, manifest.counts(wanted)[check])

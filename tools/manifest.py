@@ -46,9 +46,10 @@ def rows_of(checks: Iterable[str]) -> list[str]:
 
 
 def of_crate(name: str) -> list[str]:
-    """The tests in Rattle of a crate, its wrong bodies, with a mark on those that each gate tries, and its public
-    items."""
-    folder, marks = TOP / "crates" / name, {wrong_bodies.GATE: " gate", wrong_bodies.OTHERS: ""}
+    """The tests in Rattle of a crate, its wrong bodies, with a mark on those that each gate tries, by `rt ci` or behind
+    it, and its public items."""
+    folder = TOP / "crates" / name
+    marks = {wrong_bodies.GATE: " gate", wrong_bodies.EACH: " behind", wrong_bodies.OTHERS: ""}
     return [*(f"test {name}/{test}" for path in folder.glob("src/**/*.rt")
               for test in re.findall(r"#\[test\][^{]*?fn (\w+)", path.read_text())),
             *(f"body {name}/{path.stem} {surface.digest_of(path.read_text())}{mark}" for kind, mark in marks.items()

@@ -101,7 +101,7 @@ def counted() -> dict[str, str]:
         ("README.md", r"(\*\*True traces\.\*\* )\w+( \[source files\]\()", NUMBERS[len(files)].capitalize()),
         ("README.md", r"(\[source files\]\([^)]*\) \()[\d,]+( lines\))", total),
         ("docs/TESTING.md", r"(\| trusted files [^|]* \| )[\d,]+( \|)", total),
-        ("docs/TESTING.md", r"(In `must-fail/` there\s+are\s+)\d+( wrong bodies)", str(marks.count("gate"))),
+        ("docs/TESTING.md", r"(has\s+the\s+prover\s+refuse\s+)\d+( wrong bodies)", str(marks.count("gate"))),
         ("docs/TESTING.md", r"(\sOf\s+)\d+(\s+more\s+\(`wrong-bodies/`\))", str(len(others))),
         ("docs/TESTING.md", r"(tools/wrong_bodies\.txt\s+has,\s+for )\d+( of)", str(len(others) - others.count("-")))]
     found = {"docs/PROVED.md": row_of.sub(lambda row: f"| `{row[1]}` | {lines_of(row[1])} |", proved)}

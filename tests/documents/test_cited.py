@@ -26,8 +26,8 @@ GLOSSARY = re.compile(r"- [^:]* \([a-z ]+\): ")
 PATH = re.compile(r"`((?:[\w.-]+/)+[\w.-]+\.(?:antt|c|cpp|csv|h|hpp|hex|json|md|py|rs|rt|script|sh|svg|txt|yml))`")
 LINK = re.compile(r"\]\(([^)\s:]*?)(#[\w-]+)?\)")
 # paths on the host of a user, and a page's patterns of names
-ELSEWHERE = re.compile(r"(?:etc|run|srv|usr|var|tmp|dev|proc|out|bin|net|specs|src|proofs|must-fail|wrong-bodies)/"
-                       r"|NAME|CRATE|FILE")
+ELSEWHERE = re.compile(r"(?:etc|run|srv|usr|var|tmp|dev|proc|out|bin|net|specs|src|proofs|must-fail|each-gate"
+                       r"|wrong-bodies)/|NAME|CRATE|FILE")
 
 
 def without(text: str, code: str = "^```.*?^```$") -> str:

@@ -152,6 +152,15 @@ def test_a_wrong_body_that_the_commit_chooses(repository: Repository) -> None:
     assert not (repository.top / "crates/a/must-fail/three.edit").exists()
 
 
+def test_wrong_bodies_behind_it(repository: Repository) -> None:
+    """They are tried if there are any. Here the prover is not there."""
+    repository.write({"crates/a/each-gate/four.edit": "file: src/lib.rt\nold: copies\nnew: moves\n"})
+    repository.commit(*TWO[:1])
+    lines = repository.gate(*TWO[:1])
+    assert lines[-1] == "7 passed, 1 failed"
+    assert any(line.startswith("FAILED: tools/wrong_bodies.py: status 1") for line in lines)
+
+
 def test_damages(repository: Repository) -> None:
     repository.commit(*TWO, "tests/none")
     repository.write(DAMAGES)

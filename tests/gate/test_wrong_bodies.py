@@ -5,6 +5,7 @@ import shutil
 import sys
 from pathlib import Path
 from subprocess import CompletedProcess
+from typing import Sequence
 
 import pytest
 
@@ -38,6 +39,11 @@ def committed(top: Path) -> str:
     return ran("git", "rev-parse", "HEAD", cwd=top).stdout.strip()
 
 
+def copied(crate: str, room: Path) -> Path:
+    """A copy of a crate of the repository."""
+    return Path(shutil.copytree(wrong_bodies.TOP / "crates" / crate, room / "crates" / crate))
+
+
 @pytest.fixture
 def top(tmp_path: Path, monkeypatch: pytest.MonkeyPatch) -> Path:
     """Two crates, each with one wrong body that was refused by the first commit; and then `b` changes."""
@@ -67,18 +73,43 @@ def test_what_cannot_be_applied(edit: str, fault: str, top: Path) -> None:
 @pytest.mark.parametrize("said, status", [("refused, as it must be", 0), ("NOT REFUSED", 1), ("BAD EDIT", 1)])
 def test_what_rt_says(said: str, status: int, top: Path, monkeypatch: pytest.MonkeyPatch) -> None:
     """A stand-in takes the place of the prover. What it refuses is recorded with the commit."""
-    def repository_of(crate: str, room: Path) -> Path:
-        return Path(shutil.copytree(top / "crates" / crate, room / "crates" / crate))
-
     (top / "rt").write_text(f"#!/bin/sh\ntest -e crates/a/must-fail/two.edit && echo 'must-fail a/two.edit: {said}'\n")
     (top / "rt").chmod(0o755)
-    for name, value in [("repository_of", repository_of), ("below", lambda crate: set())]:
+    for name, value in [("repository_of", copied), ("below", lambda crate: set())]:
         monkeypatch.setattr(wrong_bodies, name, value)
     monkeypatch.setenv("PATH", f"{top}:{os.environ['PATH']}")
     monkeypatch.setattr(sys, "argv", ["wrong_bodies.py", "a"])
     first = wrong_bodies.recorded()["a/two"]
     assert wrong_bodies.main() == status
     assert wrong_bodies.recorded() == {"a/two": first[:10] if status == 0 else first, "b/two": first}
+
+
+@pytest.mark.parametrize("said, status", [("not proved", 0), ("proved", 1)])
+def test_those_of_each_gate(said: str, status: int, top: Path, monkeypatch: pytest.MonkeyPatch) -> None:
+    """They are tried by a check of the functions that they change, and not beside the others."""
+    asked = list[str]()
+
+    def in_part(folder: Path, places: Sequence[batches.Place]) -> "CompletedProcess[str]":
+        assert "two" in (folder / "src/lib.rt").read_text()
+        asked.extend(place.path() for place in places)
+        return CompletedProcess([], 1, f"fn a::lib::a: {said}\n", "")
+
+    (top / "crates/a/wrong-bodies").rename(top / "crates/a/each-gate")
+    for name, value in [("repository_of", copied), ("crates", lambda: {"a": None}), ("below", lambda crate: set()),
+                        ("has_libraries", lambda crate: True), ("in_part", in_part)]:
+        monkeypatch.setattr(wrong_bodies, name, value)
+    monkeypatch.setattr(sys, "argv", ["wrong_bodies.py", "--in-part"])
+    assert (wrong_bodies.main(), asked) == (status, ["a"])
+    assert wrong_bodies.chosen_by([]) == ["b/two"]
+
+
+@pytest.mark.parametrize("old, path", [("1", "port::PortCounts::count"), ("3", "port::PortCounts::sent"),
+                                       ("4", "port::waits"), ("fn waits() -> u8 {", "port::waits"), ("5", None)])
+def test_which_function_is_changed(old: str, path: "str | None", tmp_path: Path) -> None:
+    (tmp_path / "src").mkdir()
+    (tmp_path / "src/port.rt").write_text(CODE)
+    place = batches.place_of(tmp_path, [batches.Change("src/port.rt", old, "0")])
+    assert (place and place.path()) == path
 
 
 def test_many_by_one_check(tmp_path: Path, monkeypatch: pytest.MonkeyPatch) -> None:

@@ -1,14 +1,15 @@
 """Many wrong bodies of a crate by one check, in which each changes a function of its own: the prover says of each
 function whether it is proved. One whose function calls another that the same check changes waits for the next check,
-and one whose function is not known, or is proved, is tried alone (tools/wrong_bodies.py)."""
+and one whose function is not known, or is proved, is left to be tried alone (tools/wrong_bodies.py)."""
 import re
 from pathlib import Path
-from typing import Mapping, NamedTuple, Optional, Sequence
+from subprocess import CompletedProcess
+from typing import Callable, Mapping, NamedTuple, Optional, Sequence
 
 from lib.programs import ran
 
 FUNCTION = re.compile(r"( *)(?:pub(?:\(\w+\))? )?(?:const )?fn (\w+)")
-BLOCK = re.compile(r"impl(?:<.*?>)? (?:[\w:<>, ]+ for )?&?(\w+)")
+BLOCK = re.compile(r"impl(?:<.*?>)? (?:(\w+)[\w:<>, ]* for )?&?(\w+)")
 # what the prover says of a function of which some goal is open
 REFUSED = re.compile(r"not proved|no proof: expected answers")
 
@@ -21,10 +22,16 @@ class Change(NamedTuple):
 
 
 class Place(NamedTuple):
-    """A function: its file, its type if it is a method, and its name."""
+    """A function: its file, its type and that of its trait if it is a method, and its name."""
     file: str
     type_name: str
+    trait_name: str
     name: str
+
+    def path(self) -> str:
+        """What the prover calls it, without its crate: MODULE::NAME, or MODULE::TYPETRAIT::NAME."""
+        modules = [part for part in Path(self.file).with_suffix("").parts[1:] if part not in ("lib", "main")]
+        return "::".join(filter(None, [*modules, self.type_name + self.trait_name, self.name]))
 
     def is_called(self, path: str) -> bool:
         """Whether the prover calls it so: CRATE::MODULE::NAME or CRATE::MODULE::TYPE::NAME, where the name of a trait
@@ -59,16 +66,17 @@ def changed(texts: Mapping[str, str], changes: Sequence[Change]) -> Optional[dic
 
 
 def function_at(file: str, lines: Sequence[str], at: int) -> Optional[Place]:
-    """The function in whose body a line stands."""
+    """The function in whose body a line stands, or whose body begins at its end."""
     begin = next((number for number in range(at, -1, -1) if FUNCTION.match(lines[number])), None)
     found = begin is not None and FUNCTION.match(lines[begin])
     if begin is None or not found or found[1] + "}" in lines[begin:at]:
         return None
-    if not any(line.endswith("{") for line in lines[begin:at]):
+    if not any(line.endswith("{") for line in lines[begin:at + 1]):
         return None
     owner = next((line for line in lines[begin::-1] if line.startswith("impl")), "") if found[1] else ""
     block = BLOCK.match(owner)
-    return Place(file, block[1] if block else "", found[2]) if bool(block) == bool(found[1]) else None
+    owner_of = (block[2], block[1] or "") if block else ("", "")
+    return Place(file, *owner_of, found[2]) if bool(block) == bool(found[1]) else None
 
 
 def place_of(folder: Path, changes: Sequence[Change]) -> Optional[Place]:
@@ -81,11 +89,18 @@ def place_of(folder: Path, changes: Sequence[Change]) -> Optional[Place]:
     return places.pop() if len(places) == 1 else None
 
 
-class Batches:
-    """Checks of a crate, in a folder that nobody else uses, with some of these wrong bodies at once."""
+def whole(folder: Path, _: Sequence[Place]) -> "CompletedProcess[str]":
+    """A check of a crate, whichever functions are asked for."""
+    return ran("rt", "check", cwd=folder, timeout=None)
 
-    def __init__(self, folder: Path, bodies: Mapping[str, Sequence[Change]]) -> None:
-        self.folder, self.bodies = folder, bodies
+
+class Batches:
+    """Checks of a crate, in a folder that nobody else uses, with some of these wrong bodies at once. A check has to
+    tell of the functions that they change."""
+
+    def __init__(self, folder: Path, bodies: Mapping[str, Sequence[Change]],
+                 check: "Callable[[Path, Sequence[Place]], CompletedProcess[str]]" = whole) -> None:
+        self.folder, self.bodies, self.check = folder, bodies, check
         self.places = {body: place for body, changes in bodies.items() if (place := place_of(folder, changes))}
         files = {change.file for body in self.places for change in bodies[body]}
         self.texts = {file: (folder / file).read_text() for file in files}
@@ -112,7 +127,7 @@ class Batches:
     def turn(self) -> None:
         """One check of as many as may be."""
         now = self.joined()
-        done, waiting = ran("rt", "check", cwd=self.folder, timeout=None), list[str]()
+        done, waiting = self.check(self.folder, [self.places[body] for body in now]), list[str]()
         said = re.findall(r"(?m)^fn (\S+): (.*)$", done.stdout + done.stderr)
         for body in now:
             states = [state for path, state in said if self.places[body].is_called(path)]
