@@ -100,14 +100,16 @@ def is_fresh(body: str, commit: str) -> bool:
 
 
 def record(body: str) -> None:
-    """Writes that this one was refused by the commit that made it, its crate and those below what they are, if it is
-    so."""
+    """Writes that this one, which not each gate tries, was refused by the commit that made it, its crate and those
+    below what they are, if it is so."""
     crate, path = crate_of(body), path_of(body)
+    if path.parent.name != OTHERS:
+        return
     paths = [*(f"crates/{it}/{part}" for it in [crate, *below(crate)] for part in PARTS), str(path.relative_to(TOP))]
     head = git("log", "-1", "--abbrev=10", "--format=%h", "--", *paths).stdout.strip()
     if not head or git("status", "--porcelain", "--", *paths).stdout:
         print(f"wrong body {body}: not recorded: its crates differ from the commit")
-    elif path.parent.name == OTHERS:
+    else:
         write({**recorded(), body: head})
 
 

@@ -103,7 +103,7 @@ def test_those_of_each_gate(said: str, status: int, top: Path, monkeypatch: pyte
     assert wrong_bodies.chosen_by([]) == ["b/two"]
 
 
-@pytest.mark.parametrize("old, path", [("1", "port::PortCounts::count"), ("3", "port::PortCounts::sent"),
+@pytest.mark.parametrize("old, path", [("1", "PortCounts::count"), ("3", "PortCounts::sent"),
                                        ("4", "port::waits"), ("fn waits() -> u8 {", "port::waits"), ("5", None)])
 def test_which_function_is_changed(old: str, path: "str | None", tmp_path: Path) -> None:
     (tmp_path / "src").mkdir()

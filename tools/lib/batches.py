@@ -29,9 +29,11 @@ class Place(NamedTuple):
     name: str
 
     def path(self) -> str:
-        """What the prover calls it, without its crate: MODULE::NAME, or MODULE::TYPETRAIT::NAME."""
+        """By which words the prover finds it: MODULE::NAME, or for a method, whose module is that of its type,
+        TYPETRAIT::NAME."""
         modules = [part for part in Path(self.file).with_suffix("").parts[1:] if part not in ("lib", "main")]
-        return "::".join(filter(None, [*modules, self.type_name + self.trait_name, self.name]))
+        owners = [self.type_name + self.trait_name] if self.type_name else modules
+        return "::".join([*owners, self.name])
 
     def is_called(self, path: str) -> bool:
         """Whether the prover calls it so: CRATE::MODULE::NAME or CRATE::MODULE::TYPE::NAME, where the name of a trait
