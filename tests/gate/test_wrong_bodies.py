@@ -24,6 +24,12 @@ impl<'a> Counts for Port<'a> {
     }
 }
 
+impl<'a> fmt::Display for Port<'a> {
+    fn fmt(&self, f: &mut fmt::Formatter) -> fmt::Result {
+        f.write_str("port")
+    }
+}
+
 fn waits() -> u8 {
     4
 }
@@ -103,8 +109,9 @@ def test_those_of_each_gate(said: str, status: int, top: Path, monkeypatch: pyte
     assert wrong_bodies.chosen_by([]) == ["b/two"]
 
 
-@pytest.mark.parametrize("old, path", [("1", "PortCounts::count"), ("3", "PortCounts::sent"),
-                                       ("4", "port::waits"), ("fn waits() -> u8 {", "port::waits"), ("5", None)])
+@pytest.mark.parametrize("old, path", [
+    ("1", "PortCounts::count"), ("3", "PortCounts::sent"), ('"port"', "PortDisplay::fmt"), ("4", "port::waits"),
+    ("fn waits() -> u8 {", "port::waits"), ("5", None)])
 def test_which_function_is_changed(old: str, path: "str | None", tmp_path: Path) -> None:
     (tmp_path / "src").mkdir()
     (tmp_path / "src/port.rt").write_text(CODE)

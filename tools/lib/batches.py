@@ -9,7 +9,7 @@ from typing import Callable, Mapping, NamedTuple, Optional, Sequence
 from lib.programs import ran
 
 FUNCTION = re.compile(r"( *)(?:pub(?:\(\w+\))? )?(?:const )?fn (\w+)")
-BLOCK = re.compile(r"impl(?:<.*?>)? (?:(\w+)[\w:<>, ]* for )?&?(\w+)")
+BLOCK = re.compile(r"impl(?:<.*?>)? (?:(?:\w+::)*(\w+)(?:<[^{}]*>)? for )?&?(\w+)")
 # what the prover says of a function of which some goal is open
 REFUSED = re.compile(r"not proved|no proof: expected answers")
 
